@@ -1,0 +1,32 @@
+-- A refusal or an answer, and the chain that document 01's table reads as: one line a refusal, in its order.
+use Prim.Native.Nat.{ℕ}
+use mathlib.Core.Bool.{Bool, true, false}
+use mathlib.Core.Option.{Option, some, none}
+use Rattle.refusal.specs.declared.Refusal.{Refusal}
+
+pub data Outcome (A : Type 0) : Type 0 where
+  refused : Refusal → Outcome A
+  answered : A → Outcome A
+
+abbrev pub refusal : ℕ → ℕ → Refusal
+refusal n p = record { number = n; place = p }
+
+module _ {A : Type 0} where
+  -- refuse with the number n at the place p where the test holds, else go on
+  abbrev pub refuse : ℕ → ℕ → Bool → Outcome A → Outcome A
+  refuse n p true next = refused (refusal n p)
+  refuse n p false next = next
+
+  -- refuse with the number n at the place that was found, if one was, else go on
+  abbrev pub refuseAt : ℕ → Option ℕ → Outcome A → Outcome A
+  refuseAt n (some p) next = refused (refusal n p)
+  refuseAt n none next = next
+
+  -- an answer's two parts: its refusal, number 0 and place 0 where there is none; and its value, which a refusal leaves at `otherwise`
+  abbrev pub refusalOf : Outcome A → Refusal
+  refusalOf (refused r) = r
+  refusalOf (answered a) = refusal 0 0
+
+  abbrev pub valueOf : A → Outcome A → A
+  valueOf otherwise (refused r) = otherwise
+  valueOf otherwise (answered a) = a

@@ -1,0 +1,47 @@
+// Refusals: a number of document 01's table and a place.
+
+// Number 0, place 0: not refused.
+#[repr(C)]
+pub struct Refusal {
+    pub number: u64,
+    pub place: u64,
+}
+
+// The table's numbers. specs/Numbers.antt has the same names, with what each is given for.
+pub const NO_FORMULA: u64 = 1;
+
+pub const COUNT_TOO_LARGE: u64 = 2;
+
+pub const ELEMENT_NOT_ADMITTED: u64 = 3;
+
+pub const OXYGEN_TOO_LOW: u64 = 4;
+
+pub const HYDROGEN_DIFFERS: u64 = 5;
+
+pub const NO_COEFFICIENT: u64 = 6;
+
+pub const BOILING_POINT_OUTSIDE: u64 = 7;
+
+pub const TOTAL_TOO_LARGE: u64 = 8;
+
+pub const BLEND_EMPTY: u64 = 9;
+
+pub const GAS_TEMPERATURE_OUTSIDE: u64 = 10;
+
+pub const BAD_CURVE: u64 = 11;
+
+pub const TRUE_AT_FIRST: u64 = 12;
+
+pub const FALSE_AT_LAST: u64 = 13;
+
+pub const BAD_READING: u64 = 14;
+
+pub const BAD_SHEET: u64 = 15;
+
+pub const UNKNOWN_METHOD: u64 = 16;
+
+pub const NO_ROOM: u64 = 17;
+
+pub const DIFFUSION_OUTSIDE: u64 = 18;
+
+pub const BLEND_OUT_OF_BOUNDS: u64 = 28;

@@ -1,0 +1,39 @@
+-- Exact fractions of whole numbers, with operations under names of their own, and the figure that one is answered as.
+-- A fraction over 0 stands for no number; no law speaks of one.
+use Prim.Native.Nat.{ℕ, _+_, _*_, _≤_, _<_}
+use Rattle.rounding.specs.Round.{roundDiv}
+
+pub record Fraction : Type 0 where
+  pub num : ℕ
+  pub den : ℕ
+
+infix 50 _⊑_ _⊏_
+infix 60 _over_
+infixl 70 _⊞_
+infixl 75 _⊠_ _⊘_
+unfoldable pub _over_ : ℕ → ℕ → Fraction
+_over_ n d = record { num = n; den = d }
+
+unfoldable pub whole : ℕ → Fraction
+whole n = record { num = n; den = 1 }
+
+-- sum, product and quotient
+unfoldable pub _⊞_ : Fraction → Fraction → Fraction
+_⊞_ f g = record { num = f .num * g .den + g .num * f .den; den = f .den * g .den }
+
+unfoldable pub _⊠_ : Fraction → Fraction → Fraction
+_⊠_ f g = record { num = f .num * g .num; den = f .den * g .den }
+
+unfoldable pub _⊘_ : Fraction → Fraction → Fraction
+_⊘_ f g = record { num = f .num * g .den; den = f .den * g .num }
+
+-- at most, and below
+unfoldable pub _⊑_ : Fraction → Fraction → Type 0
+_⊑_ f g = f .num * g .den ≤ g .num * f .den
+
+unfoldable pub _⊏_ : Fraction → Fraction → Type 0
+_⊏_ f g = f .num * g .den < g .num * f .den
+
+-- the figure: the exact fraction rounded once
+unfoldable pub figure : Fraction → ℕ
+figure f = roundDiv (f .num) (f .den)

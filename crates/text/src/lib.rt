@@ -1,0 +1,73 @@
+// Bytes of text: reading one, and putting text and numbers into a lent buffer.
+ghost use mathlib.Core.Path.{_≡_};
+ghost use Prim.Native.Nat.{_+_, _≤_};
+ghost use lib.ListN.{length, getD, drop};
+ghost use Rattle.text.specs.Decimal.{decimal};
+ghost use Rattle.text.specs.Room.{putAt, behind};
+
+// The byte at a position, 0 at the end and past it.
+pub fn byte_at(s: &[u8], at: usize) -> u8
+    ensures { λ r. ⌜ r ≡ getD (now (s .entry)) at 0 ⌝ }
+{
+    if at < s.len() { s[at] } else { 0 }
+}
+
+// Copies s to a position of out where it fits.
+fn copy(out: &mut [u8], at: usize, s: &[u8])
+    requires { ⌜ at + length (now s) ≤ length (now out) ⌝ }
+    ensures { λ _. ⌜ now (out .exit) ≡ putAt (now (out .entry)) at (now (s .entry)) ⌝ }
+{
+    let mut i = 0;
+    while i < s.len() {
+        out[at + i] = s[i];
+        i += 1;
+    }
+}
+
+// Puts s into out at a position, and answers the position behind it. Where it does not fit, out stays and the answer is the given position.
+pub fn put(out: &mut [u8], at: usize, s: &[u8]) -> usize
+    ensures { λ r. ⌜ r ≡ behind (now (out .entry)) at (now (s .entry)) ⌝ }
+    ensures room { λ r. ⌜ now (out .exit) ≡ putAt (now (out .entry)) at (now (s .entry)) ⌝ }
+{
+    if out.len() < s.len() {
+        return at;
+    }
+    if out.len() - s.len() < at {
+        return at;
+    }
+    copy(out, at, s);
+    at + s.len()
+}
+
+// A number's decimal digits, at the end of the array from a position on.
+struct Digits {
+    bytes: [u8; 20],
+    start: usize,
+}
+
+fn digits_of(n: u64) -> Digits
+    ensures { λ r. ⌜ (r .start ≤ 20) × (length (r .bytes) ≡ 20) × (drop (r .start) (r .bytes) ≡ decimal n) ⌝ }
+{
+    let mut bytes = [0u8; 20];
+    let mut at: usize = 19;
+    let mut left = n;
+    while 9 < left {
+        let by_ten = rounding::divide(left, 10);
+        bytes[at] = (48 + by_ten.remainder) as u8;
+        left = by_ten.quotient;
+        at -= 1;
+    }
+    bytes[at] = (48 + left) as u8;
+    Digits { bytes, start: at }
+}
+
+// Puts the decimal digits of n into out at a position, as put does.
+pub fn put_decimal(out: &mut [u8], at: usize, n: u64) -> usize
+    ensures { λ r. ⌜ r ≡ behind (now (out .entry)) at (decimal n) ⌝ }
+    ensures room { λ r. ⌜ now (out .exit) ≡ putAt (now (out .entry)) at (decimal n) ⌝ }
+{
+    let digits = digits_of(n);
+    let bytes = digits.bytes;
+    let start = digits.start;
+    put(out, at, &bytes[start..])
+}
