@@ -5,7 +5,7 @@ use mathlib.Core.Option.{Option, some, none}
 use Prim.Native.Nat.{ℕ, zero, suc, _+_, _-_, _≤_, _<_}
 use native.Mathlib.Decide.{decLt}
 use native.Mathlib.Omega.{arith}
-use Rattle.refusal.specs.Lowest.{lowest, Passes, IsLowest, orZero}
+use Rattle.refusal.specs.Lowest.{lowest, Passes, IsLowest, orZero, isNone}
 use Rattle.refusal.proofs.Tests.{never}
 
 module _ (test : ℕ → Bool) where
@@ -87,3 +87,7 @@ found-none test n = go (lowest test 1 n) (is-lowest test 1 n)
     go : (o : Option ℕ) → IsLowest test 1 n o → orZero o ≡ 0 → o ≡ none
     go (some r) h e = absurd (omega (arith, h .from))
     go none h e = refl
+
+pub found-any : (o : Option ℕ) → (orZero o ≡ 0 → ⊥) → isNone o ≡ false
+found-any (some r) n = refl
+found-any none n = absurd (n refl)

@@ -5,6 +5,7 @@ use mathlib.Core.List.{List, [], _∷_, _++_, append-assoc, append-nil}
 use Prim.Native.Nat.{ℕ, zero, suc, _+_, _*_, _-_, _≤_, _<_, _/_, _%_, _^_}
 use native.Mathlib.Nat.{pow-suc, div-lt-iff-lt-mul}
 use native.Mathlib.Numerals.{add-one}
+use native.Mathlib.Decide.{decLt}
 use native.Mathlib.Omega.{arith}
 use lib.ListN.{length, take, drop, set, length-set, drop-of-length-le}
 use lib.Seq.{set-split, drop-at, length-take-le}
@@ -93,3 +94,11 @@ module _ (n : ℕ) (array : List ℕ) where
   spelling-ends at left h l =
       drop-set array at (48 + left) (omega (arith, h .room, h .sized))
       ∙ sym (h .whole ∙ ap (λ (w : List ℕ). w ++ drop (at + 1) array) (decimal-one left (omega arith)))
+
+pub decimal-short : (n : ℕ) → n < 1000 → length (decimal n) ≤ 3
+decimal-short n l = go (decLt n 10) (decLt n 100)
+  where
+    go : Dec (n < 10) → Dec (n < 100) → length (decimal n) ≤ 3
+    go (yes p) d = rw (decimal-one n p) (omega arith)
+    go (no p) (yes q) = rw (decimal-two n (omega arith) q) (omega arith)
+    go (no p) (no q) = rw (decimal-three n (omega arith) l) (omega arith)

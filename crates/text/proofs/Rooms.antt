@@ -1,12 +1,14 @@
 -- Laws of text put into a room: what it then holds, byte by byte and piece by piece.
-use mathlib.Core.Path.{_≡_, refl, sym, ap, _∙_}
+use mathlib.Core.Path.{_≡_, refl, sym, ap, ap₂, _∙_}
 use mathlib.Core.List.{List, [], _++_, append-assoc}
 use Prim.Native.Nat.{ℕ, _+_, _≤_, _<_}
+use native.Mathlib.Decide.{decLe}
+use native.Mathlib.Nat.{add-zero}
 use native.Mathlib.Numerals.{add-one}
 use native.Mathlib.Omega.{arith}
 use borrow.Author.Tests.{le-leb, lt-leb}
-use lib.ListN.{length, take, drop, set, getD, length-append, length-take, length-drop}
-use lib.Seq.{take-length, take-at, take-all, length-take-le, paste, paste-suc}
+use lib.ListN.{length, take, drop, set, getD, length-append, length-drop, take-append-drop}
+use lib.Seq.{take-length, take-at, length-take-le, drop-append-add, drop-drop, paste, paste-suc}
 use Rattle.text.specs.Room.{putAt, behind}
 
 module _ (room : List ℕ) (at : ℕ) (s : List ℕ) where
@@ -34,6 +36,35 @@ module _ (room : List ℕ) (at : ℕ) (s : List ℕ) where
     pub copied : i ≡ length s → at + length s ≤ length room → out ≡ putAt room at s
     copied k l = e ∙ rw (k, put-fits l) (simp (take-length, append-assoc))
 
+-- a room keeps its size
+pub put-length : (room : List ℕ) (at : ℕ) (s : List ℕ) → length (putAt room at s) ≡ length room
+put-length room at s = go (decLe (at + length s) (length room))
+  where
+    go : Dec (at + length s ≤ length room) → length (putAt room at s) ≡ length room
+    go (yes l) = rw (put-fits room at s l) (simp (length-append, length-take-le at room (omega arith), length-drop) (omega arith))
+    go (no l) = ap length (put-too-long room at s (omega arith))
+
+-- nothing put, and a text put behind another
+pub put-none : (room : List ℕ) (at : ℕ) → at ≤ length room → putAt room at [] ≡ room
+put-none room at l = put-fits room at [] (omega arith) ∙ ap (λ (k : ℕ). take at room ++ drop k room) (add-zero at) ∙ take-append-drop at room
+
+pub put-twice : (room : List ℕ) (at : ℕ) (s t : List ℕ) → at + length s + length t ≤ length room → putAt (putAt room at s) (at + length s) t ≡ putAt room at (s ++ t)
+put-twice room at s t l =
+    let front = take at room ++ s in
+    let back = drop (at + length s) room in
+    let cut : length front ≡ at + length s = simp (length-append, length-take-le at room (omega arith)) in
+    let once : putAt room at s ≡ front ++ back = put-fits room at s (omega arith) ∙ sym (append-assoc (take at room) s back) in
+    let held : length (front ++ back) ≡ length room = ap length (sym once) ∙ put-length room at s in
+    let sum : at + length s + length t ≡ at + length (s ++ t) = omega (arith, length-append s t) in
+    let rest : drop (at + length s + length t) (front ++ back) ≡ drop (at + length (s ++ t)) room =
+    ap (λ (k : ℕ). drop (k + length t) (front ++ back)) (sym cut) ∙ drop-append-add front back (length t) ∙ drop-drop (length t) (at + length s) room ∙ ap (λ (k : ℕ). drop k room) sum in
+    rw once
+    (put-fits (front ++ back) (at + length s) t (omega arith)
+    ∙ ap₂ (λ (x y : List ℕ). x ++ (t ++ y)) (take-at front back (at + length s) cut) rest
+    ∙ append-assoc (take at room) s (t ++ drop (at + length (s ++ t)) room)
+    ∙ ap (λ (w : List ℕ). take at room ++ w) (sym (append-assoc s t (drop (at + length (s ++ t)) room)))
+    ∙ sym (put-fits room at (s ++ t) (omega (arith, length-append s t))))
+
 -- the first n bytes of a room of that size are the text t
 pub record Holds (size : ℕ) (t out : List ℕ) (n : ℕ) : Type 0 where
   pub sized : length out ≡ size
@@ -49,10 +80,9 @@ pub holds-more : {size : ℕ} {t out : List ℕ} {n : ℕ} (s : List ℕ) → Ho
 holds-more {size} {t} {out} {n} s h l =
     let room : n + length s ≤ length out = omega (arith, h .sized) in
     let front : length (take n out) ≡ n = length-take-le n out (omega arith) in
-    let all : length (take n out ++ (s ++ drop (n + length s) out)) ≡ length out = simp (length-append, length-take-le n out (omega arith), length-drop) (omega arith) in
     rw (put-fits out n s room, behind-fits out n s room)
     (record {
-      sized = all ∙ h .sized;
+      sized = ap length (sym (put-fits out n s room)) ∙ put-length out n s ∙ h .sized;
       long = omega (arith, h .long, length-append t s);
       within = l;
       starts = ap (take (n + length s)) (sym (append-assoc (take n out) s (drop (n + length s) out)))

@@ -1,0 +1,17 @@
+pub mod Elements
+pub mod Above
+pub mod Unfold
+pub mod Symbols
+pub mod Numerals
+pub mod Counts
+pub mod Sound
+pub mod Complete
+pub mod Right
+pub mod Caps
+pub mod Positions
+pub mod Steps
+pub mod Judging
+pub mod HillLines
+pub mod HillTrees
+pub mod RoundTrips
+pub mod Written

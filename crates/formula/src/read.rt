@@ -1,0 +1,297 @@
+// The reader: a formula reader calls an item reader, which calls the formula reader on a bracket, one level less deep.
+ghost use mathlib.Core.Path.{_≡_};
+ghost use mathlib.Core.Bool.{true, false};
+ghost use Prim.Native.Nat.{_+_, _*_, _≤_};
+ghost use lib.ListN.{length, drop};
+ghost use Rattle.refusal.specs.Outcome.{refused, refusal};
+ghost use Rattle.formula.specs.Reader.{symbolOf, multipleOf, multipleAt, ends};
+ghost use Rattle.formula.specs.Reading.{shown, formulaRead, ByGrammar};
+ghost use Rattle.formula.specs.Held.{cap, WithElement, WithGroup, CountedElement, CountedGroup, ElementSays, ClosedSays, ItemSays, FormulaSays, JudgedSays};
+use crate::Atoms;
+use crate::Element;
+use crate::FormulaRead;
+use crate::each;
+use crate::first_above;
+use crate::number_of;
+use refusal::Refusal;
+use text::byte_at;
+
+// What the first two bytes of an item begin: a symbol of one or of two bytes, half of one, or nothing.
+pub enum Symbol {
+    One(Element),
+    Two(Element),
+    Half,
+    Nothing,
+}
+
+// An optional count: its value, 1 where none is written, and the number of its digits.
+pub struct Multiple {
+    pub value: u64,
+    pub width: usize,
+}
+
+// What was read from a position on: atom counts, each up to 201, and the position behind them; or the position where reading is stuck.
+pub struct Reading {
+    pub ok: bool,
+    pub at: usize,
+    pub counts: [u64; 10],
+}
+
+fn symbol_of(b: u8, c: u8) -> Symbol
+    ensures { λ r. ⌜ r ≡ symbolOf b c ⌝ }
+{
+    match b {
+        b'C' => if c == b'l' {
+            Symbol::Two(Element::Chlorine)
+        } else {
+            Symbol::One(Element::Carbon)
+        },
+        b'H' => Symbol::One(Element::Hydrogen),
+        b'O' => Symbol::One(Element::Oxygen),
+        b'N' => Symbol::One(Element::Nitrogen),
+        b'S' => if c == b'i' {
+            Symbol::Two(Element::Silicon)
+        } else {
+            Symbol::One(Element::Sulfur)
+        },
+        b'P' => Symbol::One(Element::Phosphorus),
+        b'F' => Symbol::One(Element::Fluorine),
+        b'B' => if c == b'r' {
+            Symbol::Two(Element::Bromine)
+        } else {
+            Symbol::Half
+        },
+        _ => Symbol::Nothing,
+    }
+}
+
+// The count that stands in the three bytes a, b, c.
+fn multiple_of(a: u8, b: u8, c: u8) -> Multiple
+    ensures { λ r. ⌜ r ≡ multipleOf a b c ⌝ }
+{
+    if a < 49 {
+        return Multiple { value: 1, width: 0 };
+    }
+    if 57 < a {
+        return Multiple { value: 1, width: 0 };
+    }
+    let x = (a - 48) as u64;
+    if b < 48 {
+        return Multiple { value: x, width: 1 };
+    }
+    if 57 < b {
+        return Multiple { value: x, width: 1 };
+    }
+    let y = x * 10 + (b - 48) as u64;
+    if c < 48 {
+        return Multiple { value: y, width: 2 };
+    }
+    if 57 < c {
+        return Multiple { value: y, width: 2 };
+    }
+    Multiple {
+        value: y * 10 + (c - 48) as u64,
+        width: 3,
+    }
+}
+
+// The count at a position.
+fn multiple_at(s: &[u8], at: usize) -> Multiple
+    requires { ⌜ at ≤ length (now s) ⌝ }
+    ensures { λ r. ⌜ (r ≡ multipleAt (drop at (now (s .entry)))) × (at + r .width ≤ length (now (s .entry))) ⌝ }
+{
+    multiple_of(byte_at(s, at), byte_at(s, at + 1), byte_at(s, at + 2))
+}
+
+fn capped(n: u64) -> u64
+    ensures { λ r. ⌜ r ≡ cap n ⌝ }
+{
+    if n < 201 { n } else { 201 }
+}
+
+// a + b n, and 201 for all from 201 up.
+fn capped_sum(a: u64, b: u64, n: u64) -> u64
+    ensures { λ r. ⌜ r ≡ cap (a + b * n) ⌝ }
+{
+    capped(capped(a) + capped(b) * capped(n))
+}
+
+// The counts with n atoms more of e.
+fn with_element(counts: [u64; 10], e: Element, n: u64) -> [u64; 10]
+    ensures { λ r. ⌜ WithElement counts e n r ⌝ }
+{
+    let k = (number_of(e) - 1) as usize;
+    let mut sum = counts;
+    sum[k] = capped_sum(counts[k], 1, n);
+    sum
+}
+
+// The counts with n times the group's.
+fn with_group(counts: [u64; 10], group: [u64; 10], n: u64) -> [u64; 10]
+    ensures { λ r. ⌜ WithGroup counts group n r ⌝ }
+{
+    let mut sum = [0u64; 10];
+    let mut i = 0;
+    while i < 10 {
+        sum[i] = capped_sum(counts[i], group[i], n);
+        i += 1;
+    }
+    sum
+}
+
+fn stopped(at: usize) -> Reading
+    ensures { λ r. ⌜ (r .ok ≡ false) × (r .at ≡ at) ⌝ }
+{
+    Reading {
+        ok: false,
+        at,
+        counts: [0; 10],
+    }
+}
+
+// The counts acc with the element e as often as the count at a position says.
+fn counted_element(s: &[u8], at: usize, acc: [u64; 10], e: Element) -> Reading
+    requires { ⌜ at ≤ length (now s) ⌝ }
+    ensures { λ r. ⌜ CountedElement (now (s .entry)) at acc e r ⌝ }
+{
+    let n = multiple_at(s, at);
+    Reading {
+        ok: true,
+        at: at + n.width,
+        counts: with_element(acc, e, n.value),
+    }
+}
+
+// The counts acc with the group's as often as the count at a position says.
+fn counted_group(s: &[u8], at: usize, acc: [u64; 10], group: [u64; 10]) -> Reading
+    requires { ⌜ at ≤ length (now s) ⌝ }
+    ensures { λ r. ⌜ CountedGroup (now (s .entry)) at acc group r ⌝ }
+{
+    let n = multiple_at(s, at);
+    Reading {
+        ok: true,
+        at: at + n.width,
+        counts: with_group(acc, group, n.value),
+    }
+}
+
+// The text ends at a position, or a group does.
+fn ends_at(s: &[u8], at: usize) -> bool
+    requires { ⌜ at ≤ length (now s) ⌝ }
+    ensures { λ r. ⌜ r ≡ ends (drop at (now (s .entry))) ⌝ }
+{
+    if at == s.len() {
+        return true;
+    }
+    s[at] == b')'
+}
+
+// The element at a position with its count, added to the counts acc.
+fn element_at(s: &[u8], at: usize, acc: [u64; 10]) -> Reading
+    requires { ⌜ at ≤ length (now s) ⌝ }
+    ensures { λ r. ⌜ ElementSays (now (s .entry)) at acc r ⌝ }
+{
+    match symbol_of(byte_at(s, at), byte_at(s, at + 1)) {
+        Symbol::One(e) => counted_element(s, at + 1, acc, e),
+        Symbol::Two(e) => counted_element(s, at + 2, acc, e),
+        Symbol::Half => stopped(at + 1),
+        Symbol::Nothing => stopped(at),
+    }
+}
+
+// The end of a group whose formula was read as inner: its bracket and its count, added to the counts acc.
+fn closed(s: &[u8], inner: Reading, acc: [u64; 10]) -> Reading
+    requires { ⌜ inner .at ≤ length (now s) ⌝ }
+    ensures { λ r. ⌜ ClosedSays (now (s .entry)) inner acc r ⌝ }
+{
+    if !inner.ok {
+        return inner;
+    }
+    let end = inner.at;
+    if end == s.len() {
+        return stopped(end);
+    }
+    let group = inner.counts;
+    counted_group(s, end + 1, acc, group)
+}
+
+// The item at a position, its groups nested at most depth deep, added to the counts acc.
+fn item_at(s: &[u8], at: usize, depth: u64, acc: [u64; 10]) -> Reading
+    requires { ⌜ at ≤ length (now s) ⌝ }
+    ensures { λ r. ⌜ ItemSays (now (s .entry)) at depth acc r ⌝ }
+{
+    if depth == 0 {
+        return element_at(s, at, acc);
+    }
+    if byte_at(s, at) != b'(' {
+        return element_at(s, at, acc);
+    }
+    let inner = formula_at(s, at + 1, depth - 1);
+    closed(s, inner, acc)
+}
+
+// The formula from a position to the end of the text or of the group, its groups nested at most depth deep.
+fn formula_at(s: &[u8], from: usize, depth: u64) -> Reading
+    requires { ⌜ from ≤ length (now s) ⌝ }
+    ensures { λ r. ⌜ FormulaSays (now (s .entry)) from depth r ⌝ }
+{
+    let mut at = from;
+    let mut acc = [0u64; 10];
+    loop {
+        let r = item_at(s, at, depth, acc);
+        if !r.ok {
+            return r;
+        }
+        at = r.at;
+        if ends_at(s, at) {
+            return r;
+        }
+        acc = r.counts;
+    }
+}
+
+fn refuse(number: u64, place: u64) -> FormulaRead
+    ensures { λ r. ⌜ r ≡ shown (refused (refusal number place)) ⌝ }
+{
+    FormulaRead {
+        refusal: Refusal { number, place },
+        atoms: each(0),
+    }
+}
+
+// The atom counts, unless one exceeds 200.
+fn judge(atoms: Atoms) -> FormulaRead
+    ensures { λ r. ⌜ JudgedSays (atoms .count) r ⌝ }
+{
+    let over = first_above(each(200), atoms);
+    if 0 < over {
+        return refuse(refusal::COUNT_TOO_LARGE, over);
+    }
+    FormulaRead {
+        refusal: Refusal {
+            number: 0,
+            place: 0,
+        },
+        atoms,
+    }
+}
+
+// The atom counts of a formula text. Refusals 1, with the length of the longest beginning that begins a formula, and 2, with the lowest element above 200.
+pub fn read_formula(text: &[u8]) -> FormulaRead
+    ensures { λ r. ⌜ r ≡ formulaRead (now (text .entry)) ⌝ }
+    ensures grammar { λ r. ⌜ ByGrammar (now (text .entry)) r ⌝ }
+{
+    if 256 < text.len() {
+        return refuse(refusal::NO_FORMULA, 256);
+    }
+    let r = formula_at(text, 0, 8);
+    let at = r.at;
+    if !r.ok {
+        return refuse(refusal::NO_FORMULA, at as u64);
+    }
+    if at < text.len() {
+        return refuse(refusal::NO_FORMULA, at as u64);
+    }
+    let count = r.counts;
+    judge(Atoms { count })
+}

@@ -1,0 +1,191 @@
+// The writer: atom counts in Hill order, put together in a line of its own and then copied to the lent room.
+ghost use mathlib.Core.Path.{_≡_};
+ghost use Prim.Native.Nat.{_+_, _≤_, _<_};
+ghost use lib.ListN.{length, take, getD};
+ghost use Rattle.refusal.specs.Outcome.{refused, refusal};
+ghost use Rattle.text.specs.Room.{putAt};
+ghost use Rattle.formula.specs.declared.Element.the-variants.{Carbon};
+ghost use Rattle.formula.specs.Held.{spelling, AtMost200};
+ghost use Rattle.formula.specs.Hill.{hillOrder, hillItem, hillText};
+ghost use Rattle.formula.specs.Writing.{shownLength, formulaWritten, roomAfter};
+ghost use Rattle.formula.specs.RoundTrip.{RoundTrip};
+use crate::Atoms;
+use crate::Element;
+use crate::FormulaWritten;
+use crate::count_of;
+use crate::each;
+use crate::first_above;
+use refusal::Refusal;
+use text::put;
+use text::put_decimal;
+
+const BY_SYMBOL: [Element; 10] = [
+    Element::Bromine,
+    Element::Carbon,
+    Element::Chlorine,
+    Element::Fluorine,
+    Element::Hydrogen,
+    Element::Nitrogen,
+    Element::Oxygen,
+    Element::Phosphorus,
+    Element::Sulfur,
+    Element::Silicon,
+];
+
+const CARBON_FIRST: [Element; 10] = [
+    Element::Carbon,
+    Element::Hydrogen,
+    Element::Bromine,
+    Element::Chlorine,
+    Element::Fluorine,
+    Element::Nitrogen,
+    Element::Oxygen,
+    Element::Phosphorus,
+    Element::Sulfur,
+    Element::Silicon,
+];
+
+// An element's symbol: its bytes, filled up with 0, and how many they are.
+pub struct Spelling {
+    pub bytes: [u8; 2],
+    pub length: usize,
+}
+
+fn spelling_of(e: Element) -> Spelling
+    ensures { λ r. ⌜ r ≡ spelling e ⌝ }
+{
+    match e {
+        Element::Carbon => Spelling {
+            bytes: [b'C', 0],
+            length: 1,
+        },
+        Element::Hydrogen => Spelling {
+            bytes: [b'H', 0],
+            length: 1,
+        },
+        Element::Oxygen => Spelling {
+            bytes: [b'O', 0],
+            length: 1,
+        },
+        Element::Nitrogen => Spelling {
+            bytes: [b'N', 0],
+            length: 1,
+        },
+        Element::Sulfur => Spelling {
+            bytes: [b'S', 0],
+            length: 1,
+        },
+        Element::Phosphorus => Spelling {
+            bytes: [b'P', 0],
+            length: 1,
+        },
+        Element::Fluorine => Spelling {
+            bytes: [b'F', 0],
+            length: 1,
+        },
+        Element::Chlorine => Spelling {
+            bytes: [b'C', b'l'],
+            length: 2,
+        },
+        Element::Bromine => Spelling {
+            bytes: [b'B', b'r'],
+            length: 2,
+        },
+        Element::Silicon => Spelling {
+            bytes: [b'S', b'i'],
+            length: 2,
+        },
+    }
+}
+
+// The element at a place of the order.
+fn hill_element(atoms: Atoms, i: usize) -> Element
+    requires { ⌜ i < 10 ⌝ }
+    ensures { λ r. ⌜ r ≡ getD (hillOrder atoms) i Carbon ⌝ }
+{
+    if atoms.count[0] == 0 {
+        BY_SYMBOL[i]
+    } else {
+        CARBON_FIRST[i]
+    }
+}
+
+// Puts an element with its count into out at a position, and answers the position behind it.
+fn put_item(out: &mut [u8], at: usize, e: Element, n: u64) -> usize
+    requires { ⌜ at + length (hillItem e n) ≤ length (now out) ⌝ }
+    ensures { λ r. ⌜ r ≡ at + length (hillItem e n) ⌝ }
+    ensures room { λ r. ⌜ now (out .exit) ≡ putAt (now (out .entry)) at (hillItem e n) ⌝ }
+{
+    if n == 0 {
+        return at;
+    }
+    let spelling = spelling_of(e);
+    let bytes = spelling.bytes;
+    let length = spelling.length;
+    let behind = put(out, at, &bytes[..length]);
+    if n == 1 {
+        return behind;
+    }
+    put_decimal(out, behind, n)
+}
+
+// A text, at the start of the array.
+struct Line {
+    bytes: [u8; 64],
+    length: usize,
+}
+
+// The Hill text of counts of at most 200.
+fn hill_line(atoms: Atoms) -> Line
+    requires { ⌜ AtMost200 atoms ⌝ }
+    ensures { λ r. ⌜ (length (r .bytes) ≡ 64) × (r .length ≤ 64) × (take (r .length) (r .bytes) ≡ hillText atoms) ⌝ }
+{
+    let mut bytes = [0u8; 64];
+    let mut at = 0;
+    let mut i = 0;
+    while i < 10 {
+        let e = hill_element(atoms, i);
+        at = put_item(&mut bytes, at, e, count_of(atoms, e));
+        i += 1;
+    }
+    Line { bytes, length: at }
+}
+
+fn refuse(number: u64, place: u64) -> FormulaWritten
+    ensures { λ r. ⌜ r ≡ shownLength (refused (refusal number place)) ⌝ }
+{
+    FormulaWritten {
+        refusal: Refusal { number, place },
+        length: 0,
+    }
+}
+
+// Writes atom counts in Hill order at the start of out, and answers the text's length; the bytes behind it stay. Refusals 1 where all counts are 0,
+// 2 with the lowest element above 200, and 17 where out is too short; they leave all of out as it was.
+pub fn write_formula(atoms: Atoms, out: &mut [u8]) -> FormulaWritten
+    ensures { λ r. ⌜ r ≡ formulaWritten atoms (now (out .entry)) ⌝ }
+    ensures room { λ r. ⌜ now (out .exit) ≡ roomAfter atoms (now (out .entry)) ⌝ }
+    ensures round_trip { λ _. ⌜ RoundTrip ⌝ }
+{
+    if first_above(each(0), atoms) == 0 {
+        return refuse(refusal::NO_FORMULA, 0);
+    }
+    let over = first_above(each(200), atoms);
+    if 0 < over {
+        return refuse(refusal::COUNT_TOO_LARGE, over);
+    }
+    let line = hill_line(atoms);
+    let bytes = line.bytes;
+    let length = line.length;
+    if out.len() < length {
+        return refuse(refusal::NO_ROOM, 0);
+    }
+    put(out, 0, &bytes[..length]);
+    FormulaWritten {
+        refusal: Refusal {
+            number: 0,
+            place: 0,
+        },
+        length: length as u64,
+    }
+}
