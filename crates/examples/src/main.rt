@@ -72,10 +72,7 @@ fn show_text(text: &[u8]) {
     show_read(text);
 }
 
-fn main() {
-    io::print_decimal(STDOUT_FILENO, worked_examples());
-    show(b" worked examples proved\n");
-
+fn read_formulas() {
     show(b"\nreading\n");
     show_text(b"CH3CH(OH)CH3");
     show_text(b"c");
@@ -100,7 +97,9 @@ fn main() {
     show_read(&[b'H'; 256]);
     show(b"257 times H: ");
     show_read(&[b'H'; 257]);
+}
 
+fn write_formulas() {
     show(b"\nwriting\n");
     show_written([3, 8, 1, 0, 0, 0, 0, 0, 0, 0], &mut [b'.'; 8]);
     show_written([3, 8, 1, 0, 0, 0, 0, 0, 0, 0], &mut [b'.'; 5]);
@@ -114,4 +113,11 @@ fn main() {
     );
     show_written([0, 0, 0, 0, 0, 0, 0, 0, 0, 0], &mut [b'.'; 4]);
     show_written([1, 0, 0, 201, 0, 0, 0, 0, 0, 300], &mut [b'.'; 4]);
+}
+
+fn main() {
+    io::print_decimal(STDOUT_FILENO, worked_examples());
+    show(b" worked examples proved\n");
+    read_formulas();
+    write_formulas();
 }

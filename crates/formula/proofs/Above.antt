@@ -14,6 +14,12 @@ use Rattle.formula.specs.declared.Atoms.{Atoms}
 use Rattle.formula.specs.Elements.{number, count, countAt, each, firstAbove}
 use Rattle.formula.proofs.Elements.{number-from, number-to, numbered, each-at}
 
+-- where no count is above its bound
+pub none-above : (bounds a : Atoms) → firstAbove bounds a ≡ none → (k : ℕ) → 1 ≤ k → k ≤ 10 → countAt a k ≤ countAt bounds k
+unfolding firstAbove
+none-above bounds a e k l h = ltb-false (countAt bounds k) (countAt a k) (rw e at (is-lowest (λ j. ltb (countAt bounds j) (countAt a j)) 1 10) k l (omega arith))
+
+-- the same bound n for each element
 module _ (n : ℕ) (a : Atoms) where
   abbrev test : ℕ → Bool
   test k = ltb (countAt (each n) k) (countAt a k)
@@ -41,7 +47,7 @@ module _ (n : ℕ) (a : Atoms) where
       )
 
   pub above-none : firstAbove (each n) a ≡ none → (x : Element) → count a x ≤ n
-  above-none q x = fails x (lowest-is none q (number x) (number-from x) (omega (arith, number-to x)))
+  above-none q x = omega (arith, none-above (each n) a q (number x) (number-from x) (number-to x), each-at n (number x) (number-from x) (number-to x))
 
   -- what is found by the counts
   failing : (m : ℕ) → m ≤ 11 → ((x : Element) → number x < m → count a x ≤ n) → (j : ℕ) → 1 ≤ j → j < m → test j ≡ false

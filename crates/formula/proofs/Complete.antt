@@ -1,17 +1,16 @@
 -- The reader finds every formula of the grammar, with its totals.
 use mathlib.Core.Path.{_≡_, refl, sym, ap, _∙_, subst, fun-ext}
 use mathlib.Core.Bool.{Bool, true, false, cond}
-use mathlib.Core.Logic.{_⊎_, inl, inr}
+use mathlib.Core.Logic.{inl, inr}
 use mathlib.Core.List.{List, [], _∷_, _++_, append-assoc, append-nil}
-use Prim.Native.Nat.{ℕ, zero, suc, _+_, _≤_, _<_}
+use Prim.Native.Nat.{ℕ, _<_}
 use native.Mathlib.Omega.{arith}
 use native.Mathlib.Nat.{add-assoc}
 use lib.Dec.{eqb}
 use borrow.Author.Tests.{ne-eqb}
 use Rattle.formula.specs.declared.Element.{Element}
 use Rattle.formula.specs.declared.Element.the-variants.{Carbon, Hydrogen, Oxygen, Nitrogen, Sulfur, Phosphorus, Fluorine, Chlorine, Bromine, Silicon}
-use Rattle.formula.specs.declared.read.Symbol.{Symbol}
-use Rattle.formula.specs.declared.read.Symbol.the-variants.{One, Two, Half, Nothing}
+use Rattle.formula.specs.declared.read.Symbol.the-variants.{One, Two}
 use Rattle.formula.specs.Elements.{symbol, Totals, one, times, plus}
 use Rattle.formula.specs.Grammar.{Count, digits, value, Formula, last, next, Item, element, group, text, itemText, totals, itemTotals}
 use Rattle.formula.specs.Reader.{Result, ok, stuck, at, ends, adding, then, closing, counting, symbolic, symbolOf, readElement, readItem, readItems}

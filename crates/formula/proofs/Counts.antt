@@ -1,20 +1,20 @@
 -- The count at the head of a text, against the grammar's counts. What stands behind it matters by its first byte alone.
 use mathlib.Core.Path.{_≡_, refl, sym, ap, ap₂, _∙_, subst}
-use mathlib.Core.Bool.{Bool, true, false}
+use mathlib.Core.Bool.{false}
 use mathlib.Core.Logic.{_⊎_, inl, inr}
 use mathlib.Core.List.{List, [], _∷_, _++_}
-use Prim.Native.Nat.{ℕ, zero, suc, _+_, _*_, _-_, _≤_, _<_}
+use Prim.Native.Nat.{ℕ, _+_, _*_, _-_, _≤_, _<_}
 use native.Mathlib.Omega.{arith}
 use native.Mathlib.Decide.{decLt}
-use lib.Dec.{eqb}
 use lib.ListN.{length, drop}
 use lib.Seq.{drop-append-seam}
-use borrow.Author.Tests.{lt-ltb, le-ltb}
+use Rattle.text.specs.Decimal.{digitFrom}
+use Rattle.text.proofs.Decimals.{digit-in, digit-below, digit-above}
 use Rattle.formula.specs.declared.read.Multiple.{Multiple}
 use Rattle.formula.specs.Elements.{Totals, times}
 use Rattle.formula.specs.Grammar.{Count, digits, value}
 use Rattle.formula.proofs.Numerals.{Numeral, empty, ones, tens, hundreds, spelled, worth, Lead, Digit, Alike, to-count, to-numeral}
-use Rattle.formula.specs.Reader.{Result, ok, stuck, at, multipleOf, multipleAt, multiple, counting, ends}
+use Rattle.formula.specs.Reader.{ok, at, multipleOf, multipleAt, multiple, counting, ends}
 
 -- two texts that a reader in front of them cannot tell apart
 abbrev pub Same : List ℕ → List ℕ → Type 0
@@ -36,24 +36,25 @@ sort lo b = go (decLt b lo) (decLt 57 b)
     go (no l) (yes m) = inr (inr m)
     go (no l) (no m) = inl (omega arith, omega arith)
 
-pub count-0 : (a b c : ℕ) → Out 49 a → multipleOf a b c ≡ multiple 1 0
-unfolding multipleOf
-count-0 a b c (inl l) = simp (lt-ltb a 49 l)
-count-0 a b c (inr l) = simp (le-ltb a 49 (omega arith), lt-ltb 57 a l)
+no-digit : (lo b : ℕ) → Out lo b → digitFrom lo b ≡ false
+no-digit lo b (inl l) = digit-below lo b l
+no-digit lo b (inr l) = digit-above lo b l
 
-pub count-1 : (a b c : ℕ) → Lead a → Out 48 b → multipleOf a b c ≡ multiple (a - 48) 1
+count-0 : (a b c : ℕ) → Out 49 a → multipleOf a b c ≡ multiple 1 0
 unfolding multipleOf
-count-1 a b c p (inl l) = simp (le-ltb a 49 (p .0), le-ltb 57 a (p .1), lt-ltb b 48 l)
-count-1 a b c p (inr l) = simp (le-ltb a 49 (p .0), le-ltb 57 a (p .1), le-ltb b 48 (omega arith), lt-ltb 57 b l)
+count-0 a b c o = rw (no-digit 49 a o)
 
-pub count-2 : (a b c : ℕ) → Lead a → Digit b → Out 48 c → multipleOf a b c ≡ multiple ((a - 48) * 10 + (b - 48)) 2
+count-1 : (a b c : ℕ) → Lead a → Out 48 b → multipleOf a b c ≡ multiple (a - 48) 1
 unfolding multipleOf
-count-2 a b c p q (inl l) = simp (le-ltb a 49 (p .0), le-ltb 57 a (p .1), le-ltb b 48 (q .0), le-ltb 57 b (q .1), lt-ltb c 48 l)
-count-2 a b c p q (inr l) = simp (le-ltb a 49 (p .0), le-ltb 57 a (p .1), le-ltb b 48 (q .0), le-ltb 57 b (q .1), le-ltb c 48 (omega arith), lt-ltb 57 c l)
+count-1 a b c p o = rw (digit-in 49 a (p .0) (p .1), no-digit 48 b o)
 
-pub count-3 : (a b c : ℕ) → Lead a → Digit b → Digit c → multipleOf a b c ≡ multiple (((a - 48) * 10 + (b - 48)) * 10 + (c - 48)) 3
+count-2 : (a b c : ℕ) → Lead a → Digit b → Out 48 c → multipleOf a b c ≡ multiple ((a - 48) * 10 + (b - 48)) 2
 unfolding multipleOf
-count-3 a b c p q r = simp (le-ltb a 49 (p .0), le-ltb 57 a (p .1), le-ltb b 48 (q .0), le-ltb 57 b (q .1), le-ltb c 48 (r .0), le-ltb 57 c (r .1))
+count-2 a b c p q o = rw (digit-in 49 a (p .0) (p .1), digit-in 48 b (q .0) (q .1), no-digit 48 c o)
+
+count-3 : (a b c : ℕ) → Lead a → Digit b → Digit c → multipleOf a b c ≡ multiple (((a - 48) * 10 + (b - 48)) * 10 + (c - 48)) 3
+unfolding multipleOf
+count-3 a b c p q r = rw (digit-in 49 a (p .0) (p .1), digit-in 48 b (q .0) (q .1), digit-in 48 c (r .0) (r .1))
 
 -- the numeral, and the count, that the reader finds in front of r
 abbrev Spelt : Numeral → List ℕ → Type 0

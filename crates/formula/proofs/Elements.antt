@@ -7,29 +7,23 @@ use Rattle.formula.specs.declared.Element.{Element}
 use Rattle.formula.specs.declared.Element.the-variants.{Carbon, Hydrogen, Oxygen, Nitrogen, Sulfur, Phosphorus, Fluorine, Chlorine, Bromine, Silicon}
 use Rattle.formula.specs.Elements.{number, Totals, count, countAt, atoms, each}
 
+in-range : (e : Element) → (1 ≤ number e) × (number e ≤ 10)
+in-range Carbon = (omega arith, omega arith)
+in-range Hydrogen = (omega arith, omega arith)
+in-range Oxygen = (omega arith, omega arith)
+in-range Nitrogen = (omega arith, omega arith)
+in-range Sulfur = (omega arith, omega arith)
+in-range Phosphorus = (omega arith, omega arith)
+in-range Fluorine = (omega arith, omega arith)
+in-range Chlorine = (omega arith, omega arith)
+in-range Bromine = (omega arith, omega arith)
+in-range Silicon = (omega arith, omega arith)
+
 pub number-from : (e : Element) → 1 ≤ number e
-number-from Carbon = omega arith
-number-from Hydrogen = omega arith
-number-from Oxygen = omega arith
-number-from Nitrogen = omega arith
-number-from Sulfur = omega arith
-number-from Phosphorus = omega arith
-number-from Fluorine = omega arith
-number-from Chlorine = omega arith
-number-from Bromine = omega arith
-number-from Silicon = omega arith
+number-from e = in-range e .0
 
 pub number-to : (e : Element) → number e ≤ 10
-number-to Carbon = omega arith
-number-to Hydrogen = omega arith
-number-to Oxygen = omega arith
-number-to Nitrogen = omega arith
-number-to Sulfur = omega arith
-number-to Phosphorus = omega arith
-number-to Fluorine = omega arith
-number-to Chlorine = omega arith
-number-to Bromine = omega arith
-number-to Silicon = omega arith
+number-to e = in-range e .1
 
 -- an element for each number
 pub numbered : (k : ℕ) → 1 ≤ k → k ≤ 10 → (e : Element) × (number e ≡ k)

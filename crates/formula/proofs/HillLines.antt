@@ -3,9 +3,9 @@ use mathlib.Core.Path.{_≡_, refl, sym, ap, _∙_}
 use mathlib.Core.Bool.{Bool, true, false, cond}
 use mathlib.Core.List.{List, [], _∷_, _++_, map, append-assoc, append-nil}
 use Prim.Native.Nat.{ℕ, zero, suc, _+_, _*_, _≤_, _<_}
-use native.Mathlib.Decide.{decLt}
 use native.Mathlib.Numerals.{add-one}
 use native.Mathlib.Omega.{arith}
+use borrow.Author.Tests.{eq-eqb, ne-eqb}
 use lib.Dec.{eqb}
 use lib.ListN.{length, take, getD, length-append}
 use lib.Seq.{take-suc, take-all}
@@ -18,24 +18,32 @@ use Rattle.formula.specs.declared.Element.the-variants.{Carbon, Hydrogen
 use Rattle.formula.specs.declared.Atoms.{Atoms}
 use Rattle.formula.specs.Elements.{symbol, count}
 use Rattle.formula.specs.Hill.{bySymbol, carbonFirst, hillOrder, hillItem, joined, hillText}
-use Rattle.formula.specs.Held.{spelling, AtMost200}
+use Rattle.formula.specs.Held.{AtMost200}
 
--- a symbol as an array holds it, and as text
+-- a symbol is one letter, or two
 pub record Spelled (e : Element) : Type 0 where
   pub short : length (symbol e) ≤ 2
-  pub text : take (spelling e .length) (spelling e .bytes) ≡ symbol e
+  pub one : getD (symbol e) 1 0 ≡ 0 → getD (symbol e) 0 0 ∷ [] ≡ symbol e
+  pub two : (getD (symbol e) 1 0 ≡ 0 → ⊥) → getD (symbol e) 0 0 ∷ getD (symbol e) 1 0 ∷ [] ≡ symbol e
 
 pub spelled : (e : Element) → Spelled e
-spelled Carbon = record { short = omega arith; text = refl }
-spelled Hydrogen = record { short = omega arith; text = refl }
-spelled Oxygen = record { short = omega arith; text = refl }
-spelled Nitrogen = record { short = omega arith; text = refl }
-spelled Sulfur = record { short = omega arith; text = refl }
-spelled Phosphorus = record { short = omega arith; text = refl }
-spelled Fluorine = record { short = omega arith; text = refl }
-spelled Chlorine = record { short = omega arith; text = refl }
-spelled Bromine = record { short = omega arith; text = refl }
-spelled Silicon = record { short = omega arith; text = refl }
+spelled Carbon = record { short = omega arith; one = λ z. refl; two = λ n. absurd (n refl) }
+spelled Hydrogen = record { short = omega arith; one = λ z. refl; two = λ n. absurd (n refl) }
+spelled Oxygen = record { short = omega arith; one = λ z. refl; two = λ n. absurd (n refl) }
+spelled Nitrogen = record { short = omega arith; one = λ z. refl; two = λ n. absurd (n refl) }
+spelled Sulfur = record { short = omega arith; one = λ z. refl; two = λ n. absurd (n refl) }
+spelled Phosphorus = record { short = omega arith; one = λ z. refl; two = λ n. absurd (n refl) }
+spelled Fluorine = record { short = omega arith; one = λ z. refl; two = λ n. absurd (n refl) }
+spelled Chlorine = record { short = omega arith; one = λ z. absurd (omega arith); two = λ n. refl }
+spelled Bromine = record { short = omega arith; one = λ z. absurd (omega arith); two = λ n. refl }
+spelled Silicon = record { short = omega arith; one = λ z. absurd (omega arith); two = λ n. refl }
+
+-- the order, by the count of carbon
+pub order-without-carbon : (a : Atoms) → count a Carbon ≡ 0 → hillOrder a ≡ bySymbol
+order-without-carbon a e = rw (eq-eqb (count a Carbon) 0 e)
+
+pub order-with-carbon : (a : Atoms) → 0 < count a Carbon → hillOrder a ≡ carbonFirst
+order-with-carbon a l = rw (ne-eqb (count a Carbon) 0 (λ e. omega arith))
 
 -- an item by its count
 pub item-none : (e : Element) (n : ℕ) → n ≡ 0 → hillItem e n ≡ []
@@ -61,8 +69,8 @@ module _ (e : Element) (n : ℕ) (room : List ℕ) (at : ℕ) (fit : at + length
   put-no-item z = let i = item-none e n z in (omega (arith, ap length i), sym (rw i (put-none room at (omega arith))))
 
   module _ (mid : List ℕ) (r : ℕ) (p : r ≡ behind room at (symbol e)) (q : mid ≡ putAt room at (symbol e)) where
-    pub put-symbol : n ≡ 1 → Put mid r
-    put-symbol z = let i = item-one e n z in (p ∙ rw i (behind-fits room at (symbol e) (omega (arith, ap length i))), q ∙ rw i)
+    pub put-symbol-alone : n ≡ 1 → Put mid r
+    put-symbol-alone z = let i = item-one e n z in (p ∙ rw i (behind-fits room at (symbol e) (omega (arith, ap length i))), q ∙ rw i)
 
     pub put-symbol-count : 1 < n → (out : List ℕ) (k : ℕ) → k ≡ behind mid r (decimal n) → out ≡ putAt mid r (decimal n) → Put out k
     put-symbol-count l out k f g =

@@ -6,15 +6,14 @@ use mathlib.Core.Option.{Option, some, none}
 use Prim.Native.Nat.{ℕ, suc, _-_, _≤_, _<_}
 use native.Mathlib.Numerals.{sub-one}
 use native.Mathlib.Omega.{arith}
-use borrow.Author.Tests.{lt-ltb, le-ltb, ltb-false}
-use lib.Dec.{ltb}
+use borrow.Author.Tests.{lt-ltb, le-ltb}
 use lib.ListN.{length, drop, length-drop}
 use lib.Seq.{ext-getD}
 use Rattle.refusal.specs.Numbers.{noFormula, countTooLarge}
 use Rattle.refusal.specs.Lowest.{orZero}
 use Rattle.refusal.specs.Outcome.{refused, answered, refusal, refuseAt}
 use Rattle.refusal.proofs.Tests.{never}
-use Rattle.refusal.proofs.Lowest.{is-lowest, lowest-alike, found-some, found-none}
+use Rattle.refusal.proofs.Lowest.{lowest-alike, found-some, found-none}
 use Rattle.formula.specs.declared.Atoms.{Atoms}
 use Rattle.formula.specs.declared.FormulaRead.{FormulaRead}
 use Rattle.formula.specs.declared.read.Reading.{Reading}
@@ -23,12 +22,8 @@ use Rattle.formula.specs.Reader.{Result, ok, stuck, readItems}
 use Rattle.formula.specs.Reading.{shown, atMost200, judged, reading, formulaRead}
 use Rattle.formula.specs.Held.{cap, Holds, Says, FormulaSays, JudgedSays}
 use Rattle.formula.proofs.Elements.{numbered, count-atoms, each-at}
+use Rattle.formula.proofs.Above.{none-above}
 use Rattle.formula.proofs.Caps.{over-cap, holds-from}
-
--- where no count is above its bound
-pub none-above : (bounds a : Atoms) → firstAbove bounds a ≡ none → (k : ℕ) → 1 ≤ k → k ≤ 10 → countAt a k ≤ countAt bounds k
-unfolding firstAbove
-none-above bounds a e k l h = ltb-false (countAt bounds k) (countAt a k) (rw e at (is-lowest (λ j. ltb (countAt bounds j) (countAt a j)) 1 10) k l (omega arith))
 
 -- counts that hold the totals m
 module _ (held : Atoms) (m : Totals) (h : Holds (held .count) m) where

@@ -2,13 +2,13 @@
 use mathlib.Core.Path.{_≡_, refl, sym, ap, ap₂, _∙_, subst}
 use mathlib.Core.Bool.{Bool, true, false}
 use mathlib.Core.List.{List, [], _∷_, _++_, append-assoc, append-nil}
-use Prim.Native.Nat.{ℕ, zero, suc, _+_, _≤_, _<_}
+use Prim.Native.Nat.{ℕ, zero, suc, _<_}
 use native.Mathlib.Omega.{arith}
 use lib.Dec.{eqb}
-use lib.ListN.{length, drop, length-append}
+use lib.ListN.{length, length-append}
 use borrow.Author.Tests.{eqb-true}
 use Rattle.formula.specs.declared.Element.{Element}
-use Rattle.formula.specs.declared.Element.the-variants.{Carbon, Hydrogen, Oxygen, Nitrogen, Sulfur, Phosphorus, Fluorine, Chlorine, Bromine, Silicon}
+use Rattle.formula.specs.declared.Element.the-variants.{Carbon}
 use Rattle.formula.specs.declared.read.Symbol.{Symbol}
 use Rattle.formula.specs.declared.read.Symbol.the-variants.{One, Two, Half, Nothing}
 use Rattle.formula.specs.Elements.{symbol, Totals, one, times, plus}

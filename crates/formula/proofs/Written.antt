@@ -1,8 +1,8 @@
 -- The answers of `write_formula`, test by test.
 use mathlib.Core.Path.{_≡_, refl, sym, ap, _∙_}
-use mathlib.Core.Bool.{Bool, true, false}
+use mathlib.Core.Bool.{false}
 use mathlib.Core.List.{List}
-use mathlib.Core.Option.{Option, some, none}
+use mathlib.Core.Option.{some, none}
 use Prim.Native.Nat.{ℕ, _≤_, _<_}
 use native.Mathlib.Omega.{arith}
 use borrow.Author.Tests.{lt-ltb, le-ltb}
@@ -13,7 +13,7 @@ use Rattle.refusal.proofs.Lowest.{found-some, found-none, found-any}
 use Rattle.text.specs.Room.{putAt}
 use Rattle.formula.specs.declared.Atoms.{Atoms}
 use Rattle.formula.specs.declared.FormulaWritten.{FormulaWritten}
-use Rattle.formula.specs.Elements.{countAt, each, firstAbove}
+use Rattle.formula.specs.Elements.{each, firstAbove}
 use Rattle.formula.specs.Hill.{hillText}
 use Rattle.formula.specs.Writing.{writing, shownLength, formulaWritten, holding, roomAfter}
 use Rattle.formula.specs.RoundTrip.{RoundTrip}

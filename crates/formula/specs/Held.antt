@@ -1,15 +1,14 @@
--- What the reader's and the writer's own functions hold and say, below the promises: counts up to 201, positions in the text, symbols as arrays.
+-- What the reader's and the writer's own functions hold and say, below the promises: counts up to 201, and positions in the text.
 use mathlib.Core.Path.{_≡_}
 use mathlib.Core.Bool.{true, false}
-use mathlib.Core.List.{List, [], _∷_}
+use mathlib.Core.List.{List}
 use Prim.Native.Nat.{ℕ, _-_, _≤_, _<_, min}
 use lib.ListN.{length, drop, getD}
 use Rattle.formula.specs.declared.Element.{Element}
 use Rattle.formula.specs.declared.Atoms.{Atoms}
 use Rattle.formula.specs.declared.FormulaRead.{FormulaRead}
 use Rattle.formula.specs.declared.read.Reading.{Reading}
-use Rattle.formula.specs.declared.write.Spelling.{Spelling}
-use Rattle.formula.specs.Elements.{symbol, Totals, number, nothing, one, plus, times, count, atoms}
+use Rattle.formula.specs.Elements.{Totals, number, nothing, one, plus, times, count, atoms}
 use Rattle.formula.specs.Reading.{shown, atMost200}
 use Rattle.formula.specs.Reader.{Result, ok, stuck, counting, closing, readElement, readItem, readItems}
 
@@ -70,9 +69,6 @@ FormulaSays s from depth r = Says s from nothing (readItems depth (drop from s))
 abbrev pub JudgedSays : List ℕ → FormulaRead → Type 0
 JudgedSays counts r = (m : Totals) → Holds counts m → r ≡ shown (atMost200 (atoms m))
 
--- THE WRITER. A symbol filled up with 0 to two bytes, and its length.
-abbrev pub spelling : Element → Spelling
-spelling e = record { bytes = getD (symbol e) 0 0 ∷ getD (symbol e) 1 0 ∷ []; length = length (symbol e) }
-
+-- what the writer's line holds: no count above 200
 pub record AtMost200 (a : Atoms) : Type 0 where
   pub most : (e : Element) → count a e ≤ 200

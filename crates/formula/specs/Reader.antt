@@ -2,8 +2,9 @@
 use mathlib.Core.Bool.{Bool, true, false, cond}
 use mathlib.Core.List.{List, [], _∷_}
 use Prim.Native.Nat.{ℕ, zero, suc, _+_, _*_, _-_}
-use lib.Dec.{eqb, ltb}
+use lib.Dec.{eqb}
 use lib.ListN.{length, drop, getD}
+use Rattle.text.specs.Decimal.{digitFrom}
 use Rattle.formula.specs.declared.Element.{Element}
 use Rattle.formula.specs.declared.Element.the-variants.{Carbon, Hydrogen, Oxygen, Nitrogen, Sulfur, Phosphorus, Fluorine, Chlorine, Bromine, Silicon}
 use Rattle.formula.specs.declared.read.Symbol.{Symbol}
@@ -45,19 +46,19 @@ follow unknown c = Nothing
 unfoldable pub symbolOf : ℕ → ℕ → Symbol
 symbolOf b c = follow (letter b) c
 
--- COUNTS. The optional count that stands in the bytes a, b, c, and its width.
+-- COUNTS. The optional count that stands in the bytes a, b, c, and its width: up to three digits, the first not 0.
 abbrev pub multiple : ℕ → ℕ → Multiple
 multiple v w = record { value = v; width = w }
 
 unfoldable pub multipleOf : ℕ → ℕ → ℕ → Multiple
 multipleOf a b c =
-    cond (ltb a 49) (multiple 1 0)
-    (cond (ltb 57 a) (multiple 1 0)
-    (cond (ltb b 48) (multiple (a - 48) 1)
-    (cond (ltb 57 b) (multiple (a - 48) 1)
-    (cond (ltb c 48) (multiple ((a - 48) * 10 + (b - 48)) 2)
-    (cond (ltb 57 c) (multiple ((a - 48) * 10 + (b - 48)) 2)
-    (multiple (((a - 48) * 10 + (b - 48)) * 10 + (c - 48)) 3))))))
+    cond (digitFrom 49 a)
+    (cond (digitFrom 48 b)
+    (cond (digitFrom 48 c)
+    (multiple (((a - 48) * 10 + (b - 48)) * 10 + (c - 48)) 3)
+    (multiple ((a - 48) * 10 + (b - 48)) 2))
+    (multiple (a - 48) 1))
+    (multiple 1 0)
 
 abbrev pub multipleAt : List ℕ → Multiple
 multipleAt t = multipleOf (at t 0) (at t 1) (at t 2)

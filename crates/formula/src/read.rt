@@ -15,6 +15,7 @@ use crate::first_above;
 use crate::number_of;
 use refusal::Refusal;
 use text::byte_at;
+use text::is_digit_from;
 
 // What the first two bytes of an item begin: a symbol of one or of two bytes, half of one, or nothing.
 pub enum Symbol {
@@ -69,24 +70,15 @@ fn symbol_of(b: u8, c: u8) -> Symbol
 fn multiple_of(a: u8, b: u8, c: u8) -> Multiple
     ensures { λ r. ⌜ r ≡ multipleOf a b c ⌝ }
 {
-    if a < 49 {
-        return Multiple { value: 1, width: 0 };
-    }
-    if 57 < a {
+    if !is_digit_from(49, a) {
         return Multiple { value: 1, width: 0 };
     }
     let x = (a - 48) as u64;
-    if b < 48 {
-        return Multiple { value: x, width: 1 };
-    }
-    if 57 < b {
+    if !is_digit_from(48, b) {
         return Multiple { value: x, width: 1 };
     }
     let y = x * 10 + (b - 48) as u64;
-    if c < 48 {
-        return Multiple { value: y, width: 2 };
-    }
-    if 57 < c {
+    if !is_digit_from(48, c) {
         return Multiple { value: y, width: 2 };
     }
     Multiple {

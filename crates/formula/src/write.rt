@@ -3,10 +3,11 @@ ghost use mathlib.Core.Path.{_≡_};
 ghost use Prim.Native.Nat.{_+_, _≤_, _<_};
 ghost use lib.ListN.{length, take, getD};
 ghost use Rattle.refusal.specs.Outcome.{refused, refusal};
-ghost use Rattle.text.specs.Room.{putAt};
+ghost use Rattle.text.specs.Room.{putAt, behind};
 ghost use Rattle.formula.specs.declared.Element.the-variants.{Carbon};
-ghost use Rattle.formula.specs.Held.{spelling, AtMost200};
+ghost use Rattle.formula.specs.Held.{AtMost200};
 ghost use Rattle.formula.specs.Hill.{hillOrder, hillItem, hillText};
+ghost use Rattle.formula.specs.Elements.{symbol};
 ghost use Rattle.formula.specs.Writing.{shownLength, formulaWritten, roomAfter};
 ghost use Rattle.formula.specs.RoundTrip.{RoundTrip};
 use crate::Atoms;
@@ -45,56 +46,39 @@ const CARBON_FIRST: [Element; 10] = [
     Element::Silicon,
 ];
 
-// An element's symbol: its bytes, filled up with 0, and how many they are.
-pub struct Spelling {
-    pub bytes: [u8; 2],
-    pub length: usize,
-}
-
-fn spelling_of(e: Element) -> Spelling
-    ensures { λ r. ⌜ r ≡ spelling e ⌝ }
+// The first byte of an element's symbol.
+fn first_letter(e: Element) -> u8
+    ensures { λ r. ⌜ r ≡ getD (symbol e) 0 0 ⌝ }
 {
     match e {
-        Element::Carbon => Spelling {
-            bytes: [b'C', 0],
-            length: 1,
-        },
-        Element::Hydrogen => Spelling {
-            bytes: [b'H', 0],
-            length: 1,
-        },
-        Element::Oxygen => Spelling {
-            bytes: [b'O', 0],
-            length: 1,
-        },
-        Element::Nitrogen => Spelling {
-            bytes: [b'N', 0],
-            length: 1,
-        },
-        Element::Sulfur => Spelling {
-            bytes: [b'S', 0],
-            length: 1,
-        },
-        Element::Phosphorus => Spelling {
-            bytes: [b'P', 0],
-            length: 1,
-        },
-        Element::Fluorine => Spelling {
-            bytes: [b'F', 0],
-            length: 1,
-        },
-        Element::Chlorine => Spelling {
-            bytes: [b'C', b'l'],
-            length: 2,
-        },
-        Element::Bromine => Spelling {
-            bytes: [b'B', b'r'],
-            length: 2,
-        },
-        Element::Silicon => Spelling {
-            bytes: [b'S', b'i'],
-            length: 2,
-        },
+        Element::Carbon => b'C',
+        Element::Hydrogen => b'H',
+        Element::Oxygen => b'O',
+        Element::Nitrogen => b'N',
+        Element::Sulfur => b'S',
+        Element::Phosphorus => b'P',
+        Element::Fluorine => b'F',
+        Element::Chlorine => b'C',
+        Element::Bromine => b'B',
+        Element::Silicon => b'S',
+    }
+}
+
+// The second byte of an element's symbol, 0 where it has none.
+fn second_letter(e: Element) -> u8
+    ensures { λ r. ⌜ r ≡ getD (symbol e) 1 0 ⌝ }
+{
+    match e {
+        Element::Carbon => 0,
+        Element::Hydrogen => 0,
+        Element::Oxygen => 0,
+        Element::Nitrogen => 0,
+        Element::Sulfur => 0,
+        Element::Phosphorus => 0,
+        Element::Fluorine => 0,
+        Element::Chlorine => b'l',
+        Element::Bromine => b'r',
+        Element::Silicon => b'i',
     }
 }
 
@@ -110,6 +94,18 @@ fn hill_element(atoms: Atoms, i: usize) -> Element
     }
 }
 
+// Puts an element's symbol into out at a position, as text::put does.
+fn put_symbol(out: &mut [u8], at: usize, e: Element) -> usize
+    ensures { λ r. ⌜ r ≡ behind (now (out .entry)) at (symbol e) ⌝ }
+    ensures room { λ r. ⌜ now (out .exit) ≡ putAt (now (out .entry)) at (symbol e) ⌝ }
+{
+    let bytes = [first_letter(e), second_letter(e)];
+    if bytes[1] == 0 {
+        return put(out, at, &bytes[..1]);
+    }
+    put(out, at, &bytes)
+}
+
 // Puts an element with its count into out at a position, and answers the position behind it.
 fn put_item(out: &mut [u8], at: usize, e: Element, n: u64) -> usize
     requires { ⌜ at + length (hillItem e n) ≤ length (now out) ⌝ }
@@ -119,10 +115,7 @@ fn put_item(out: &mut [u8], at: usize, e: Element, n: u64) -> usize
     if n == 0 {
         return at;
     }
-    let spelling = spelling_of(e);
-    let bytes = spelling.bytes;
-    let length = spelling.length;
-    let behind = put(out, at, &bytes[..length]);
+    let behind = put_symbol(out, at, e);
     if n == 1 {
         return behind;
     }

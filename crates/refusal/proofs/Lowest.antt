@@ -1,11 +1,11 @@
 -- Laws of the search for the lowest number that passes a test: it finds what it says, nothing else is that, and a loop's steps.
-use mathlib.Core.Path.{_≡_, refl, sym, ap, _∙_}
+use mathlib.Core.Path.{_≡_, refl, ap, _∙_}
 use mathlib.Core.Bool.{Bool, true, false, cond}
 use mathlib.Core.Option.{Option, some, none}
 use Prim.Native.Nat.{ℕ, zero, suc, _+_, _-_, _≤_, _<_}
 use native.Mathlib.Decide.{decLt}
 use native.Mathlib.Omega.{arith}
-use Rattle.refusal.specs.Lowest.{lowest, Passes, IsLowest, orZero, isNone}
+use Rattle.refusal.specs.Lowest.{lowest, IsLowest, orZero, isNone}
 use Rattle.refusal.proofs.Tests.{never}
 
 module _ (test : ℕ → Bool) where

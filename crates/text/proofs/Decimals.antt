@@ -1,6 +1,6 @@
 -- Laws of decimal digits: the last digit and those before it, and the digits of numbers below 1000.
 use mathlib.Core.Path.{_≡_, refl, sym, ap, _∙_}
-use mathlib.Core.Bool.{Bool, true, false}
+use mathlib.Core.Bool.{Bool, true, false, and-false}
 use mathlib.Core.List.{List, [], _∷_, _++_, append-assoc, append-nil}
 use Prim.Native.Nat.{ℕ, zero, suc, _+_, _*_, _-_, _≤_, _<_, _/_, _%_, _^_}
 use native.Mathlib.Nat.{pow-suc, div-lt-iff-lt-mul}
@@ -9,10 +9,10 @@ use native.Mathlib.Decide.{decLt}
 use native.Mathlib.Omega.{arith}
 use lib.ListN.{length, take, drop, set, length-set, drop-of-length-le}
 use lib.Seq.{set-split, drop-at, length-take-le}
-use lib.Dec.{ltb}
-use borrow.Author.Tests.{lt-ltb, le-ltb, ltb-false}
-use Rattle.text.specs.Decimal.{decimal, decimalBy}
-use Rattle.refusal.proofs.Tests.{if-true, if-false}
+use lib.Dec.{leb, ltb}
+use borrow.Author.Tests.{lt-ltb, le-ltb, ltb-false, le-leb, lt-leb, leb-true}
+use Rattle.text.specs.Decimal.{decimal, decimalBy, digitFrom}
+use Rattle.refusal.proofs.Tests.{if-true, if-false, both}
 
 by-one : (k n : ℕ) → n < 10 → decimalBy (suc k) n ≡ (48 + n) ∷ []
 by-one k n l = if-true (ltb n 10) ((48 + n) ∷ []) (decimalBy k (n / 10) ++ (48 + n % 10) ∷ []) (lt-ltb n 10 l)
@@ -102,3 +102,20 @@ decimal-short n l = go (decLt n 10) (decLt n 100)
     go (yes p) d = rw (decimal-one n p) (omega arith)
     go (no p) (yes q) = rw (decimal-two n (omega arith) q) (omega arith)
     go (no p) (no q) = rw (decimal-three n (omega arith) l) (omega arith)
+
+-- BYTES OF DIGITS, as a test and as facts
+pub digit-in : (from b : ℕ) → from ≤ b → b ≤ 57 → digitFrom from b ≡ true
+unfolding digitFrom
+digit-in from b l h = rw (le-leb from b l, le-leb b 57 h)
+
+pub digit-below : (from b : ℕ) → b < from → digitFrom from b ≡ false
+unfolding digitFrom
+digit-below from b l = rw (lt-leb from b l)
+
+pub digit-above : (from b : ℕ) → 57 < b → digitFrom from b ≡ false
+unfolding digitFrom
+digit-above from b l = rw (lt-leb b 57 l, and-false (leb from b))
+
+pub digit-bounds : (from b : ℕ) → digitFrom from b ≡ true → (from ≤ b) × (b ≤ 57)
+unfolding digitFrom
+digit-bounds from b e = let h = both (leb from b) (leb b 57) e in (leb-true from b (h .0), leb-true b 57 (h .1))

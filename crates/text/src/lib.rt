@@ -2,7 +2,7 @@
 ghost use mathlib.Core.Path.{_≡_};
 ghost use Prim.Native.Nat.{_+_, _≤_};
 ghost use lib.ListN.{length, getD, drop};
-ghost use Rattle.text.specs.Decimal.{decimal};
+ghost use Rattle.text.specs.Decimal.{decimal, digitFrom};
 ghost use Rattle.text.specs.Room.{putAt, behind};
 
 // The byte at a position, 0 at the end and past it.
@@ -10,6 +10,16 @@ pub fn byte_at(s: &[u8], at: usize) -> u8
     ensures { λ r. ⌜ r ≡ getD (now (s .entry)) at 0 ⌝ }
 {
     if at < s.len() { s[at] } else { 0 }
+}
+
+// Whether b is the byte of a decimal digit that is not below the byte `from`.
+pub fn is_digit_from(from: u8, b: u8) -> bool
+    ensures { λ r. ⌜ r ≡ digitFrom from b ⌝ }
+{
+    if b < from {
+        return false;
+    }
+    b <= 57
 }
 
 // Copies s to a position of out where it fits.

@@ -1,6 +1,6 @@
 -- `digits_of` meets its contract: the digits of n are those of what is left, then those written.
-use mathlib.Core.Path.{_≡_, refl, ap, _∙_}
-use Prim.Native.Nat.{ℕ, _/_, _%_}
+use mathlib.Core.Path.{_≡_, refl, ap}
+use Prim.Native.Nat.{_%_}
 use native.Mathlib.Omega.{arith}
 use lib.ListN.{length-set}
 use Rattle.text.proofs.Decimals.{Spelling, spelling-starts, spelling-room, spelling-more, spelling-ends}

@@ -1,10 +1,9 @@
 -- `put_decimal` meets its contract: the part of the array from the first digit on is the decimal text.
 use borrow.Author.Needs.{needs}
-use mathlib.Core.Path.{_≡_, ap, _∙_}
-use mathlib.Core.List.{List}
-use Prim.Native.Nat.{ℕ, _-_}
+use mathlib.Core.Path.{_≡_, _∙_}
+use Prim.Native.Nat.{_-_}
 use native.Mathlib.Omega.{arith}
-use lib.ListN.{length, take, drop, length-drop}
+use lib.ListN.{take, drop, length-drop}
 use lib.Seq.{take-all}
 use Rattle.text.specs.Decimal.{decimal}
 use Rattle.text.proofs.put_decimal.Statement.{statement}

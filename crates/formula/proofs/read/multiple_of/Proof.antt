@@ -1,32 +1,50 @@
--- `multiple_of` meets its contract: test by test, with no digit, one, two or three.
-use mathlib.Core.Path.{sym}
-use mathlib.Core.Logic.{inl, inr}
-use native.Mathlib.Omega.{arith}
+-- `multiple_of` meets its contract: with no digit, one, two or three.
 use borrow.Author.Needs.{needs}
-use Rattle.formula.proofs.Counts.{count-0, count-1, count-2, count-3}
+use borrow.Author.Tests.{not-true, not-false}
+use mathlib.Core.Path.{_≡_, sym, _∙_}
+use mathlib.Core.Bool.{true}
+use native.Mathlib.Omega.{arith}
+use Rattle.text.specs.Decimal.{digitFrom}
+use Rattle.text.proofs.Decimals.{digit-bounds}
+use Rattle.formula.specs.Reader.{multipleOf}
 use Rattle.formula.proofs.read.multiple_of.Statement.{statement}
 use Rattle.formula.proofs.read.multiple_of.Tie as tie
 
-returns : tie.Need-returns
-returns c = sym (count-0 _ _ _ (inl (omega arith)))
+-- the digits that were found
+first : (c : tie.Else1) → digitFrom 49 (c .before .before .args .a) ≡ true
+first c = sym (c .before .is-digit-from .ensures) ∙ not-false _ (c .if1 .left)
 
-returns-2 : tie.Need-returns-2
-returns-2 c = sym (count-0 _ _ _ (inr (omega arith)))
+second : (c : tie.Else2) → digitFrom 48 (c .before .before .before .before .args .b) ≡ true
+second c = sym (c .before .is-digit-from2 .ensures) ∙ not-false _ (c .if2 .left)
+
+third : (c : tie.Else3) → digitFrom 48 (c .before .before .before .before .before .before .args .c) ≡ true
+third c = sym (c .before .is-digit-from3 .ensures) ∙ not-false _ (c .if3 .left)
+
+is-digit-from-requires : tie.Need-is-digit-from-requires
+is-digit-from-requires c κs = search needs
+
+returns : tie.Need-returns
+unfolding multipleOf
+returns c = rw (sym (c .before .is-digit-from .ensures) ∙ not-true _ (c .if1 .taken))
 
 sub-x : tie.Need-sub-x
-sub-x c = search needs
+sub-x c = omega (arith, digit-bounds _ _ (first c))
 
 cast-x : tie.Need-cast-x
 cast-x c = search needs
 
-returns-3 : tie.Need-returns-3
-returns-3 c = sym (count-1 _ _ _ (omega arith, omega arith) (inl (omega arith)))
+is-digit-from-requires-2 : tie.Need-is-digit-from-requires-2
+is-digit-from-requires-2 c κs = search needs
 
-returns-4 : tie.Need-returns-4
-returns-4 c = sym (count-1 _ _ _ (omega arith, omega arith) (inr (omega arith)))
+returns-2 : tie.Need-returns-2
+unfolding multipleOf
+returns-2 c = rw (first (c .before .before), sym (c .before .is-digit-from2 .ensures) ∙ not-true _ (c .if2 .taken))
 
 mul-y : tie.Need-mul-y
 mul-y c = search needs
+
+sub-y : tie.Need-sub-y
+sub-y c = omega (arith, digit-bounds _ _ (second c))
 
 cast-y : tie.Need-cast-y
 cast-y c = search needs
@@ -34,40 +52,47 @@ cast-y c = search needs
 add-y : tie.Need-add-y
 add-y c = search needs
 
-returns-5 : tie.Need-returns-5
-returns-5 c = sym (count-2 _ _ _ (omega arith, omega arith) (omega arith, omega arith) (inl (omega arith)))
+is-digit-from-requires-3 : tie.Need-is-digit-from-requires-3
+is-digit-from-requires-3 c κs = search needs
 
-returns-6 : tie.Need-returns-6
-returns-6 c = sym (count-2 _ _ _ (omega arith, omega arith) (omega arith, omega arith) (inr (omega arith)))
+returns-3 : tie.Need-returns-3
+unfolding multipleOf
+returns-3 c = rw (first (c .before .before .before .before), second (c .before .before), sym (c .before .is-digit-from3 .ensures) ∙ not-true _ (c .if3 .taken))
 
-mul-t9 : tie.Need-mul-t9
-mul-t9 c = search needs
+mul-t10 : tie.Need-mul-t10
+mul-t10 c = search needs
 
-cast-t8 : tie.Need-cast-t8
-cast-t8 c = search needs
+sub-t8 : tie.Need-sub-t8
+sub-t8 c = omega (arith, digit-bounds _ _ (third c))
 
-add-t10 : tie.Need-add-t10
-add-t10 c = search needs
+cast-t9 : tie.Need-cast-t9
+cast-t9 c = search needs
 
-returns-7 : tie.Need-returns-7
-returns-7 c = sym (count-3 _ _ _ (omega arith, omega arith) (omega arith, omega arith) (omega arith, omega arith))
+add-t11 : tie.Need-add-t11
+add-t11 c = search needs
+
+returns-4 : tie.Need-returns-4
+unfolding multipleOf
+returns-4 c = rw (first (c .before .before .before .before), second (c .before .before), third c)
 
 pub multiple-of-spec : {M : Type 1} → statement M
 multiple-of-spec =
     tie.close
     (tie.spec
+    is-digit-from-requires
     returns
-    returns-2
     sub-x
     cast-x
-    returns-3
-    returns-4
+    is-digit-from-requires-2
+    returns-2
     mul-y
+    sub-y
     cast-y
     add-y
-    returns-5
-    returns-6
-    mul-t9
-    cast-t8
-    add-t10
-    returns-7)
+    is-digit-from-requires-3
+    returns-3
+    mul-t10
+    sub-t8
+    cast-t9
+    add-t11
+    returns-4)

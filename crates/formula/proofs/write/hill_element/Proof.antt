@@ -1,6 +1,12 @@
 -- `hill_element` meets its contract: the test for carbon picks the order.
 use borrow.Author.Needs.{needs}
-use borrow.Author.Tests.{eq-eqb, ne-eqb}
+use mathlib.Core.Path.{sym, ap}
+use mathlib.Core.List.{List}
+use native.Mathlib.Omega.{arith}
+use lib.ListN.{getD}
+use Rattle.formula.specs.declared.Element.{Element}
+use Rattle.formula.specs.declared.Element.the-variants.{Carbon}
+use Rattle.formula.proofs.HillLines.{order-without-carbon, order-with-carbon}
 use Rattle.formula.proofs.write.hill_element.Statement.{statement}
 use Rattle.formula.proofs.write.hill_element.Tie as tie
 
@@ -14,10 +20,10 @@ array-copy-out-result-2 : tie.Need-array-copy-out-result-2
 array-copy-out-result-2 c = search needs
 
 returns : tie.Need-returns
-returns c = rw (eq-eqb _ _ (c .before .if1 .taken))
+returns c = ap (λ (es : List Element). getD es (c .before .before .before .args .i) Carbon) (sym (order-without-carbon (c .before .before .before .args .t1) (omega arith)))
 
 returns-2 : tie.Need-returns-2
-returns-2 c = rw (ne-eqb _ _ (c .before .if1 .left))
+returns-2 c = ap (λ (es : List Element). getD es (c .before .before .before .args .i) Carbon) (sym (order-with-carbon (c .before .before .before .args .t1) (omega arith)))
 
 pub hill-element-spec : {M : Type 1} → statement M
 hill-element-spec =

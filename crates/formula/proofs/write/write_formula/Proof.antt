@@ -3,11 +3,11 @@ use borrow.Author.Needs.{needs}
 use mathlib.Core.Path.{_≡_, sym, ap, _∙_}
 use Prim.Native.Nat.{ℕ}
 use native.Mathlib.Omega.{arith}
-use lib.ListN.{length, take, length-take}
+use lib.ListN.{length, length-take}
 use lib.Seq.{length-take-le}
 use Rattle.refusal.specs.Lowest.{orZero}
+use Rattle.text.specs.Room.{putAt}
 use Rattle.formula.specs.declared.Atoms.{Atoms}
-use Rattle.formula.specs.declared.FormulaWritten.{FormulaWritten}
 use Rattle.formula.specs.Elements.{each, firstAbove}
 use Rattle.formula.specs.Hill.{hillText}
 use Rattle.formula.proofs.Written.{at-most-200, written-none, written-large, written-short, written-all}
@@ -93,7 +93,7 @@ returns-4 c =
     let a = f .before .before .before .args in
     written-all (a .atoms) (a .out .now) _ (f .first-above .result) (any f) (g .before .before .if1 .left)
     (g .first-above2 .result) (over g) (omega arith) (omega (arith, size h)) _ (ap (λ (n : ℕ). record { refusal = record { number = 0; place = 0 }; length = n }) (size h))
-    (rw (h .hill-line .ensures .2) at (p .put .ensures .1))
+    (p .put .ensures .1 ∙ ap (putAt (a .out .now) 0) (h .hill-line .ensures .2))
 
 pub write-formula-spec : {M : Type 1} → statement M
 write-formula-spec =
