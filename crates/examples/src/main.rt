@@ -2,6 +2,9 @@
 ghost use mathlib.Core.Path.{_≡_};
 ghost use lib.ListN.{length};
 ghost use Rattle.examples.specs.Worked.{examples as worked, AllAsPrinted};
+use blend::Blend;
+use blend::Blended;
+use blend::Limits;
 use libc::STDOUT_FILENO;
 use refusal::Refusal;
 
@@ -10,7 +13,7 @@ fn worked_examples() -> u64
     ensures { λ r. ⌜ r ≡ length worked ⌝ }
     ensures printed { λ _. ⌜ AllAsPrinted ⌝ }
 {
-    2
+    8
 }
 
 fn show(text: &[u8]) {
@@ -115,9 +118,157 @@ fn write_formulas() {
     show_written([1, 0, 0, 201, 0, 0, 0, 0, 0, 300], &mut [b'.'; 4]);
 }
 
+// A number of hundredths, with two decimals.
+fn show_hundredths(n: u64) {
+    let exact = rounding::divide(n, 100);
+    io::print_decimal(STDOUT_FILENO, exact.quotient);
+    show(b".");
+    if exact.remainder < 10 {
+        show(b"0");
+    }
+    io::print_decimal(STDOUT_FILENO, exact.remainder);
+}
+
+fn show_limits(limits: Limits) {
+    let refusal = limits.refusal;
+    if 0 < refusal.number {
+        show_refusal(refusal);
+        return;
+    }
+    show_hundredths(limits.lower);
+    show(b", ");
+    show_hundredths(limits.upper);
+    show(b"\n");
+}
+
+fn show_coefficient(text: &[u8]) {
+    show(text);
+    show(b": ");
+    let figure = jaloosewin::jlw_oxygen_coefficient(text);
+    let refusal = figure.refusal;
+    if 0 < refusal.number {
+        show_refusal(refusal);
+        return;
+    }
+    io::print_decimal(STDOUT_FILENO, figure.value);
+    show(b" quarters, stoichiometric fraction ");
+    let fraction = jaloosewin::jlw_stoichiometric_fraction(text);
+    show_hundredths(fraction.value);
+    show(b"\n");
+}
+
+fn oxygen_coefficients() {
+    show(b"\noxygen\n");
+    show_coefficient(b"CH4");
+    show_coefficient(b"C6H6");
+    show_coefficient(b"C4H10S");
+    show_coefficient(b"C3H9O4P");
+    show_coefficient(b"CHCl3");
+    show_coefficient(b"CCl4");
+    show_coefficient(b"CO2");
+    show_coefficient(b"H2");
+    show_coefficient(b"C4H12Si");
+    show_coefficient(b"C201");
+    show_coefficient(b"x");
+}
+
+fn show_fuel(text: &[u8]) {
+    show(text);
+    show(b": ");
+    show_limits(jaloosewin::jlw_fuel_limits(text));
+}
+
+fn show_fuel_at(text: &[u8], temperature: i64) {
+    show(text);
+    show(b" warm: ");
+    show_limits(jaloosewin::jlw_fuel_limits_at(text, temperature));
+    show(b"  in g/m3: ");
+    show_limits(jaloosewin::jlw_mass_concentration(text, temperature));
+}
+
+fn fuel_limits() {
+    show(b"\nlimits\n");
+    show_fuel(b"CH4");
+    show_fuel(b"C6H6");
+    show_fuel(b"C7H8");
+    show_fuel(b"C2H5Cl");
+    show_fuel(b"CO2");
+    show_fuel(b"CH2Cl2");
+    show_fuel(b"C2H6S");
+    show_fuel(b"NH3");
+    show_fuel(b"C201");
+    show_fuel(b"CH");
+    show_fuel(b"C(");
+    show_fuel_at(b"CH4", 13400);
+    show_fuel_at(b"CH4", 0);
+    show_fuel_at(b"CH4", 20000);
+    show_fuel_at(b"CH4", 20001);
+    show_fuel_at(b"CH4", -1);
+}
+
+// Shows what was answered, and hands the blend on.
+fn show_blended(answer: Blended) -> Blend {
+    let refusal = answer.refusal;
+    show_refusal(refusal);
+    answer.blend
+}
+
+fn show_added(b: Blend, text: &[u8], parts: u64) -> Blend {
+    show(text);
+    show(b" ");
+    io::print_decimal(STDOUT_FILENO, parts);
+    show(b": ");
+    show_blended(jaloosewin::jlw_add_fuel(b.total, b.lower, b.upper, text, parts))
+}
+
+fn show_joined(b: Blend, other: Blend) -> Blend {
+    show(b"joined: ");
+    show_blended(jaloosewin::jlw_join_blends(
+        b.total,
+        b.lower,
+        b.upper,
+        other.total,
+        other.lower,
+        other.upper,
+    ))
+}
+
+fn show_blend(b: Blend) {
+    show(b"limits: ");
+    show_limits(jaloosewin::jlw_blend_limits(b.total, b.lower, b.upper));
+}
+
+fn blends() {
+    show(b"\nblends\n");
+    let empty = jaloosewin::jlw_empty_blend();
+    show_blend(empty);
+    let some = show_added(empty, b"C3H8", 300000);
+    let full = show_added(some, b"C2H6", 700000);
+    show_blend(full);
+    let same = show_added(full, b"CH4", 1);
+    show_blend(same);
+    show_added(same, b"CH4", 0);
+    show_joined(full, some);
+    let joined = show_joined(some, some);
+    show_blend(joined);
+    show_limits(jaloosewin::jlw_blend_limits_at(joined.total, joined.lower, joined.upper, 20001));
+    let nonsense = Blend {
+        total: 1,
+        lower: 9020,
+        upper: 2670,
+    };
+    show_blend(nonsense);
+    show_added(nonsense, b"x", 0);
+    show_joined(nonsense, nonsense);
+    show_joined(some, nonsense);
+}
+
 fn main() {
     io::print_decimal(STDOUT_FILENO, worked_examples());
     show(b" worked examples proved\n");
     read_formulas();
     write_formulas();
+    oxygen_coefficients();
+    fuel_limits();
+    blends();
 }

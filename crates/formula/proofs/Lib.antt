@@ -11,6 +11,7 @@ pub mod Caps
 pub mod Positions
 pub mod Steps
 pub mod Judging
+pub mod Texts
 pub mod HillLines
 pub mod HillTrees
 pub mod RoundTrips

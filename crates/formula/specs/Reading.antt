@@ -6,7 +6,7 @@ use Prim.Native.Nat.{ℕ, _-_, _≤_, _<_}
 use lib.Dec.{ltb}
 use lib.ListN.{length}
 use Rattle.refusal.specs.Numbers.{noFormula, countTooLarge}
-use Rattle.refusal.specs.Outcome.{Outcome, refused, answered, refusal, refuse, refuseAt, refusalOf, valueOf}
+use Rattle.refusal.specs.Outcome.{Outcome, refused, answered, refusal, refuse, refuseAt, refusalOf, valueOf, andThen}
 use Rattle.text.specs.Beginning.{LongestBeginning}
 use Rattle.formula.specs.declared.Element.{Element}
 use Rattle.formula.specs.declared.Atoms.{Atoms}
@@ -43,6 +43,10 @@ reading t = refuse noFormula 256 (ltb 256 (length t)) (judged (length t) (readIt
 
 unfoldable pub formulaRead : List ℕ → FormulaRead
 formulaRead t = shown (reading t)
+
+-- a question about counts, asked of a formula text: the reader's refusals first
+abbrev pub ofText : {B : Type 0} → (Atoms → Outcome B) → List ℕ → Outcome B
+ofText question t = andThen (reading t) question
 
 -- BY THE GRAMMAR: o is the outcome of reading t
 pub data Outcomes (t : List ℕ) : Outcome Atoms → Type 0 where

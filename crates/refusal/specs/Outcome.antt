@@ -1,8 +1,9 @@
 -- A refusal or an answer, and the chain that document 01's table reads as: one line a refusal, in its order.
-use Prim.Native.Nat.{ℕ}
+use Prim.Native.Nat.{ℕ, _<_}
 use mathlib.Core.Bool.{Bool, true, false}
 use mathlib.Core.Option.{Option, some, none}
 use Rattle.refusal.specs.declared.Refusal.{Refusal}
+use Rattle.refusal.specs.declared.Figure.{Figure}
 
 pub data Outcome (A : Type 0) : Type 0 where
   refused : Refusal → Outcome A
@@ -30,3 +31,17 @@ module _ {A : Type 0} where
   abbrev pub valueOf : A → Outcome A → A
   valueOf otherwise (refused r) = otherwise
   valueOf otherwise (answered a) = a
+
+-- an answer that is asked further; a refusal stays
+abbrev pub andThen : {A B : Type 0} → Outcome A → (A → Outcome B) → Outcome B
+andThen (refused r) f = refused r
+andThen (answered a) f = f a
+
+-- a figure as it is answered: with a refusal its value is 0
+abbrev pub shownFigure : Outcome ℕ → Figure
+shownFigure o = record { refusal = refusalOf o; value = valueOf 0 o }
+
+-- a refusal has a number above 0
+abbrev pub Numbered : {A : Type 0} → Outcome A → Type 0
+Numbered (refused r) = 0 < r .number
+Numbered (answered a) = Unit {0}

@@ -1,10 +1,17 @@
-// Refusals: a number of document 01's table and a place.
+// Refusals: a number of document 01's table and a place; a figure or a refusal.
 
 // Number 0, place 0: not refused.
 #[repr(C)]
 pub struct Refusal {
     pub number: u64,
     pub place: u64,
+}
+
+// A figure, or a refusal and 0.
+#[repr(C)]
+pub struct Figure {
+    pub refusal: Refusal,
+    pub value: u64,
 }
 
 // The table's numbers. specs/Numbers.antt has the same names, with what each is given for.

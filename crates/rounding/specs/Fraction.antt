@@ -1,6 +1,8 @@
 -- Exact fractions of whole numbers, with operations under names of their own, and the figure that one is answered as.
 -- A fraction over 0 stands for no number; no law speaks of one.
+use mathlib.Core.Bool.{Bool}
 use Prim.Native.Nat.{ℕ, _+_, _*_, _≤_, _<_}
+use lib.Dec.{leb}
 use Rattle.rounding.specs.Round.{roundDiv}
 
 pub record Fraction : Type 0 where
@@ -27,9 +29,12 @@ _⊠_ f g = record { num = f .num * g .num; den = f .den * g .den }
 unfoldable pub _⊘_ : Fraction → Fraction → Fraction
 _⊘_ f g = record { num = f .num * g .den; den = f .den * g .num }
 
--- at most, and below
+-- at most, as a fact and as a test; and below
 unfoldable pub _⊑_ : Fraction → Fraction → Type 0
 _⊑_ f g = f .num * g .den ≤ g .num * f .den
+
+unfoldable pub atMost : Fraction → Fraction → Bool
+atMost f g = leb (f .num * g .den) (g .num * f .den)
 
 unfoldable pub _⊏_ : Fraction → Fraction → Type 0
 _⊏_ f g = f .num * g .den < g .num * f .den

@@ -1,0 +1,143 @@
+-- The limit of entries lies between those that two of their fuels have alone.
+use mathlib.Core.Path.{_≡_, refl, sym, ap}
+use mathlib.Core.Logic.{_⊎_, inl, inr, ⊎-elim}
+use mathlib.Core.List.{[], _∷_, List·Memᴰ, List·Memᴰ·head, List·Memᴰ·tail}
+use Prim.Native.Nat.{ℕ, _+_, _*_, _≤_, _<_}
+use native.Mathlib.Nat.{le-trans, le-of-eq, mul-le-mul-left, mul-le-mul-right, add-le-add, eq-zero-or-pos}
+use native.Mathlib.Decide.{decLt}
+use native.Mathlib.Omega.{arith}
+use Rattle.rounding.specs.Fraction.{Fraction, whole, _⊠_, _⊑_}
+use Rattle.rounding.proofs.Fractions.{is-whole, is-times, at-most-is, figure-mono}
+use Rattle.formula.specs.declared.Atoms.{Atoms}
+use Rattle.oxygen.specs.Limit.{Side}
+use Rattle.blend.specs.Temperature.{correction}
+use Rattle.blend.specs.Blend.{unit}
+use Rattle.blend.specs.Model.{Entry, Entries, sum, total, leChatelier, limitAt, limitFigure}
+use Rattle.blend.specs.Claims.{alone, Between}
+use Rattle.blend.proofs.Sums.{weightOf, weighs}
+use Rattle.blend.proofs.LeChatelier.{correction-is, le-chatelier-is}
+
+-- WITNESSES. For an order in which any two numbers compare, and which sums and multiples keep: ≤ and ≥.
+record Order (R : ℕ → ℕ → Type 0) : Type 0 where
+  eq : {a b : ℕ} → a ≡ b → R a b
+  trans : {a b c : ℕ} → R a b → R b c → R a c
+  plus : {a b c d : ℕ} → R a b → R c d → R (a + c) (b + d)
+  times : {a b : ℕ} (k : ℕ) → R a b → R (k * a) (k * b)
+  either : (a b : ℕ) → R a b ⊎ R b a
+
+-- each fuel with a weight of its own
+module _ (w : Atoms → ℕ) where
+  abbrev weigh : Entry → ℕ
+  weigh e = e .parts * w (e .fuel)
+
+  -- no parts, no weight
+  none-weighs : (es : Entries) → total es ≡ 0 → sum weigh es ≡ 0
+  unfolding sum
+  none-weighs [] h = refl
+  none-weighs (e ∷ es) h =
+      let a : e .parts ≡ 0 = omega arith in
+      let b = ap (λ (n : ℕ). n * w (e .fuel)) a in
+      let c = none-weighs es (omega arith) in
+      omega arith
+
+  module _ (R : ℕ → ℕ → Type 0) (o : Order R) where
+    open Order o using (eq, trans, plus, times, either)
+
+    -- some fuel with parts above zero, at whose weight the total would weigh no less, in that order, than the entries
+    abbrev Extreme : Entries → Type 0
+    Extreme es = (e : Entry) × List·Memᴰ e es × (0 < e .parts) × R (sum weigh es) (total es * w (e .fuel))
+
+    first : (e : Entry) (es : Entries) → 0 < e .parts → R (sum weigh es) (total es * w (e .fuel)) → Extreme (e ∷ es)
+    unfolding sum
+    first e es v r =
+        let q : e .parts * w (e .fuel) + total es * w (e .fuel) ≡ (e .parts + total es) * w (e .fuel) = omega arith in
+        (e, List·Memᴰ·head refl, v, trans (plus (eq refl) r) (eq q))
+
+    later : (e : Entry) (es : Entries) (m : Extreme es) → R (e .parts * w (e .fuel)) (e .parts * w (m .0 .fuel)) → Extreme (e ∷ es)
+    unfolding sum
+    later e es m r =
+        let q : e .parts * w (m .0 .fuel) + total es * w (m .0 .fuel) ≡ (e .parts + total es) * w (m .0 .fuel) = omega arith in
+        (m .0, List·Memᴰ·tail (m .1), m .2, trans (plus r (m .3)) (eq q))
+
+    extreme : (es : Entries) → 0 < total es → Extreme es
+    unfolding sum
+    extreme [] h = absurd (omega arith)
+    extreme (e ∷ es) h = ⊎-elim last (λ k. more (extreme es k)) (eq-zero-or-pos (total es))
+      where
+        last : total es ≡ 0 → Extreme (e ∷ es)
+        last z =
+            let a = ap (λ (n : ℕ). n * w (e .fuel)) z in
+            let q : sum weigh es ≡ total es * w (e .fuel) = omega (arith, none-weighs es z) in
+            first e es (omega arith) (eq q)
+
+        more : Extreme es → Extreme (e ∷ es)
+        more m =
+            ⊎-elim (λ z. later e es m (eq (rw z (omega arith))))
+            (λ v. ⊎-elim (λ r. later e es m (times (e .parts) r)) (λ r. first e es v (trans (m .3) (times (total es) r))) (either (w (e .fuel)) (w (m .0 .fuel))))
+            (eq-zero-or-pos (e .parts))
+
+either-way : (a b : ℕ) → (a ≤ b) ⊎ (b ≤ a)
+either-way a b = go (decLt a b)
+  where
+    go : Dec (a < b) → (a ≤ b) ⊎ (b ≤ a)
+    go (yes l) = inl (omega arith)
+    go (no l) = inr (omega arith)
+
+at-most : Order (λ a b. a ≤ b)
+at-most = record { eq = le-of-eq; trans = le-trans; plus = add-le-add; times = mul-le-mul-left; either = either-way }
+
+at-least : Order (λ a b. b ≤ a)
+at-least = record { eq = λ q. le-of-eq (sym q); trans = λ x y. le-trans y x; plus = add-le-add; times = mul-le-mul-left; either = λ a b. either-way b a }
+
+-- LIMITS. A product's order is that of one factor.
+module _ (f g h : Fraction) (l : f ⊑ g) where
+  times-most : f ⊠ h ⊑ g ⊠ h
+  unfolding _⊑_ _⊠_
+  times-most = let a = mul-le-mul-right (h .num * h .den) l in omega arith
+
+  most-times : h ⊠ f ⊑ h ⊠ g
+  unfolding _⊑_ _⊠_
+  most-times = let a = mul-le-mul-right (h .num * h .den) l in omega arith
+
+module _ (s : Side) (t : ℕ) where
+  over-positive : (es : Entries) → 0 < total es → 0 < limitAt s es t .den
+  unfolding limitAt
+  over-positive es h = is-times (le-chatelier-is s es h) (correction-is s t) .den-pos
+
+  -- the limit goes by the total over the weight, unrounded and as answered
+  module _ (es fs : Entries) (h : 0 < total es) (g : 0 < total fs) (l : total es * sum (weighs s) fs ≤ total fs * sum (weighs s) es) where
+    limit-mono : limitAt s es t ⊑ limitAt s fs t
+    unfolding limitAt
+    limit-mono =
+        let u = mul-le-mul-right (100 * unit s) l in
+        times-most (leChatelier s es) (leChatelier s fs) (correction s t) (at-most-is (le-chatelier-is s es h) (le-chatelier-is s fs g) (omega arith))
+
+    answer-mono : limitFigure s es t ≤ limitFigure s fs t
+    unfolding limitFigure limitAt
+    answer-mono =
+        figure-mono _ _ (most-times (limitAt s es t) (limitAt s fs t) (whole 100) limit-mono)
+        (is-times (is-whole 100) (is-times (le-chatelier-is s es h) (correction-is s t)) .den-pos)
+        (is-times (is-whole 100) (is-times (le-chatelier-is s fs g) (correction-is s t)) .den-pos)
+
+  pub bracketed : (es : Entries) → 0 < total es → Between s es t
+  unfolding sum
+  bracketed es h =
+      let a = extreme (weightOf s) (λ a b. a ≤ b) at-most es h in
+      let b = extreme (weightOf s) (λ a b. b ≤ a) at-least es h in
+      let ha = a .3 in
+      let hb = b .3 in
+      record {
+        over = over-positive es h;
+        low = a .0;
+        low-taken = a .1;
+        low-present = a .2;
+        low-over = over-positive (alone (a .0)) (omega arith);
+        above-exact = limit-mono (alone (a .0)) es (omega arith) h (omega arith);
+        above = answer-mono (alone (a .0)) es (omega arith) h (omega arith);
+        high = b .0;
+        high-taken = b .1;
+        high-present = b .2;
+        high-over = over-positive (alone (b .0)) (omega arith);
+        below-exact = limit-mono es (alone (b .0)) h (omega arith) (omega arith);
+        below = answer-mono es (alone (b .0)) h (omega arith) (omega arith);
+      }

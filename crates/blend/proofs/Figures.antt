@@ -1,0 +1,66 @@
+-- A blend's limits as the code has them, one quotient each; the weights as it has them; and that its products fit.
+use mathlib.Core.Path.{_≡_, sym, _∙_}
+use Prim.Native.Nat.{ℕ, _+_, _*_, _-_, _≤_, _<_}
+use native.Mathlib.Nat.{mul-le-mul}
+use native.Mathlib.Omega.{arith}
+use borrow.Author.Tests.{le-leb, lt-leb}
+use Rattle.rounding.specs.Round.{roundDiv}
+use Rattle.rounding.specs.Fraction.{_over_, whole, _⊠_, _⊘_, figure}
+use Rattle.rounding.proofs.Fractions.{is-over, is-whole, is-times, is-same, figure-is}
+use Rattle.oxygen.specs.Limit.{Side, lower, upper}
+use Rattle.blend.specs.declared.Blend.{Blend}
+use Rattle.blend.specs.Temperature.{correction}
+use Rattle.blend.specs.Blend.{sumOf, unit, held, weight, blendLimit}
+use Rattle.blend.specs.Held.{Within, Rated}
+use Rattle.oxygen.specs.Held.{weight as limitWeight}
+use Rattle.blend.proofs.Weights.{weight-is}
+use Rattle.blend.proofs.LeChatelier.{from-sums-is}
+
+pub weight-lower : (q : ℕ) → weight lower q ≡ 2171 * q + 4679
+unfolding limitWeight
+weight-lower q = weight-is lower q
+
+pub weight-upper-low : (q : ℕ) → q ≤ 30 → weight upper q ≡ 775 * q + 1120
+unfolding limitWeight
+weight-upper-low q l = weight-is upper q ∙ rw (le-leb q 30 l)
+
+pub weight-upper-high : (q : ℕ) → 30 < q → weight upper q ≡ 384 * q + 13108
+unfolding limitWeight
+weight-upper-high q l = weight-is upper q ∙ rw (lt-leb q 30 l)
+
+-- V / (sum / 100) times y / d, in hundredths
+corrected : (s : Side) (b : Blend) (y d n m : ℕ) → 0 < sumOf s b → 0 < d → 0 < m → 100 * (b .total * (100 * unit s) * y) * m ≡ n * (1 * (sumOf s b * d))
+    → figure (whole 100 ⊠ ((whole (b .total) ⊘ (held s b ⊘ whole 100)) ⊠ (y over d))) ≡ roundDiv n m
+corrected s b y d n m p h k e = figure-is (is-same (is-times (is-whole 100) (is-times (from-sums-is s b p) (is-over y d h))) k e)
+
+pub lower-figure : (b : Blend) (t : ℕ) → 0 < b .lower → roundDiv (25000 * b .total * (127700 - t)) (313 * b .lower) ≡ blendLimit lower b t
+unfolding blendLimit correction unit
+lower-figure b t p = sym (go (127700 - t))
+  where
+    go : (y : ℕ) → figure (whole 100 ⊠ ((whole (b .total) ⊘ (held lower b ⊘ whole 100)) ⊠ (y over 125200))) ≡ roundDiv (25000 * b .total * y) (313 * b .lower)
+    go y = corrected lower b y 125200 (25000 * b .total * y) (313 * b .lower) p (omega arith) (omega arith) (omega arith)
+
+pub upper-figure : (b : Blend) (t : ℕ) → 0 < b .upper → roundDiv (50000 * b .total * (t + 78700)) (203 * b .upper) ≡ blendLimit upper b t
+unfolding blendLimit correction unit
+upper-figure b t p = sym (go (t + 78700))
+  where
+    go : (y : ℕ) → figure (whole 100 ⊠ ((whole (b .total) ⊘ (held upper b ⊘ whole 100)) ⊠ (y over 81200))) ≡ roundDiv (50000 * b .total * y) (203 * b .upper)
+    go y = corrected upper b y 81200 (50000 * b .total * y) (203 * b .upper) p (omega arith) (omega arith) (omega arith)
+
+-- SIZES
+pub weighed : {v x : ℕ} → v ≤ 1000000 → x ≤ 10000000 → v * x ≤ 1000000 * 10000000
+weighed h k = mul-le-mul h k
+
+module _ {scale v factor divisor x : ℕ} (r : Rated scale v factor divisor x) where
+  scaled : scale * v ≤ 50000 * 1000000
+  scaled = mul-le-mul (r .scale-most) (r .total-most)
+
+  pub rated-products : (scale * v ≤ 50000 * 1000000) × (scale * v * factor ≤ 50000 * 1000000 * 127700) × (divisor * x ≤ 313 * 10000000000000)
+  rated-products = (scaled, mul-le-mul scaled (r .factor-most), mul-le-mul (r .divisor-most) (r .sum-most))
+
+module _ (b : Blend) (t : ℕ) (w : Within b) (l : t ≤ 20000) where
+  pub lower-rated : Rated 25000 (b .total) (127700 - t) 313 (b .lower)
+  lower-rated = omega arith
+
+  pub upper-rated : Rated 50000 (b .total) (t + 78700) 203 (b .upper)
+  upper-rated = omega arith

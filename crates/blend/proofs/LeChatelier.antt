@@ -1,0 +1,97 @@
+-- Le Chatelier's limit over entries goes by their total and the sum of their weights alone, and is the limit of the blend that holds those.
+use mathlib.Core.Path.{_≡_, refl, sym, ap, _∙_}
+use mathlib.Core.Bool.{Bool, true, false}
+use mathlib.Core.List.{[], _∷_}
+use mathlib.Core.Option.{Option}
+use Prim.Native.Nat.{ℕ, _+_, _*_, _-_, _≤_, _<_}
+use native.Mathlib.Nat.{le-refl, mul-le-mul-left, mul-pos, pos-of-ne-zero}
+use native.Mathlib.Omega.{arith}
+use lib.Dec.{eqb}
+use lib.IntN.{ℤ, natAbs}
+use borrow.Author.Tests.{eqb-true, eqb-false, eq-eqb, ne-eqb}
+use Rattle.rounding.specs.Fraction.{Fraction, _over_, whole, _⊠_, _⊘_, figure}
+use Rattle.rounding.proofs.Fractions.{Is, is-over, is-whole, is-plus, is-times, is-by, is-same, figure-is}
+use Rattle.oxygen.specs.Beta.{beta}
+use Rattle.oxygen.specs.Limit.{Side, lower, upper}
+use Rattle.blend.specs.declared.Blend.{Blend}
+use Rattle.blend.specs.Temperature.{meant, correction}
+use Rattle.blend.specs.Blend.{sumOf, unit, held, blendLimit}
+use Rattle.blend.specs.Model.{Entry, Entries, sum, total, fuelLimit, shares, leChatelier, limitAt, limitFigure, modelAsks}
+use Rattle.blend.proofs.Weights.{unit-positive, limit-is, weight-positive}
+use Rattle.blend.proofs.Bounds.{held-is}
+use Rattle.blend.proofs.Sums.{weighs, blendOf, Times}
+
+pub correction-is : (s : Side) (t : ℕ) → Is (correction s t) (correction s t .num) (correction s t .den)
+unfolding correction _over_
+correction-is lower t = is-over (1277 * 100 - t) (1252 * 100) (omega arith)
+correction-is upper t = is-over (t + 787 * 100) (812 * 100) (omega arith)
+
+sum-held : (s : Side) (es : Entries) → sumOf s (blendOf es) ≡ sum (weighs s) es
+sum-held lower es = refl
+sum-held upper es = refl
+
+module _ (s : Side) where
+  -- entries with parts have weight
+  total-weighs : (es : Entries) → total es ≤ sum (weighs s) es
+  unfolding sum
+  total-weighs [] = le-refl 0
+  total-weighs (e ∷ es) =
+      let a = mul-le-mul-left (e .parts) (weight-positive s (natAbs (beta (e .fuel)))) in
+      let b = total-weighs es in
+      omega arith
+
+  share-is : (e : Entry) → Is (whole (e .parts) ⊘ fuelLimit s (e .fuel)) (weighs s e) (100 * unit s)
+  unfolding fuelLimit
+  share-is e =
+      let u = unit-positive s in
+      is-same (is-by (is-whole (e .parts)) (limit-is s (natAbs (beta (e .fuel)))) (omega arith)) (omega arith) (omega arith)
+
+  shares-is : (es : Entries) → Is (shares s es) (sum (weighs s) es) (100 * unit s)
+  unfolding shares sum
+  shares-is [] = let u = unit-positive s in is-same (is-whole 0) (omega arith) (omega arith)
+  shares-is (e ∷ es) = is-plus (share-is e) (shares-is es)
+
+  pub le-chatelier-is : (es : Entries) → 0 < total es → Is (leChatelier s es) (total es * (100 * unit s)) (sum (weighs s) es)
+  unfolding leChatelier
+  le-chatelier-is es h =
+      let w : 0 < sum (weighs s) es = omega (arith, total-weighs es) in
+      is-same (is-by (is-whole (total es)) (shares-is es) w) w (omega arith)
+
+  -- the same from the total and the sum that a blend holds
+  pub from-sums-is : (b : Blend) → 0 < sumOf s b → Is (whole (b .total) ⊘ (held s b ⊘ whole 100)) (b .total * (100 * unit s)) (sumOf s b)
+  from-sums-is b h =
+      let u = unit-positive s in
+      let hundredth : Is (held s b ⊘ whole 100) (sumOf s b) (100 * unit s) = is-same (is-by (held-is s b) (is-whole 100) (omega arith)) (omega arith) (omega arith) in
+      is-same (is-by (is-whole (b .total)) hundredth h) h (omega arith)
+
+  -- one value, one figure
+  module _ (t : ℕ) where
+    pub same-at : {f g : Fraction} {n d : ℕ} → Is f n d → Is g n d → figure (whole 100 ⊠ (f ⊠ correction s t)) ≡ figure (whole 100 ⊠ (g ⊠ correction s t))
+    same-at i j = figure-is (is-times (is-whole 100) (is-times i (correction-is s t))) ∙ sym (figure-is (is-times (is-whole 100) (is-times j (correction-is s t))))
+
+    pub blend-limit : (es : Entries) → 0 < total es → blendLimit s (blendOf es) t ≡ limitFigure s es t
+    unfolding blendLimit limitFigure limitAt
+    blend-limit es h =
+        let w : 0 < sum (weighs s) es = omega (arith, total-weighs es) in
+        same-at (rw (sum-held s es) at (from-sums-is (blendOf es) (rw (sum-held s es) w))) (le-chatelier-is es h)
+
+    limit-times : (k : ℕ) (es fs : Entries) → Times k es fs → 0 < total es → 0 < total fs → limitFigure s es t ≡ limitFigure s fs t
+    unfolding limitFigure limitAt
+    limit-times k es fs x h g =
+        let j = le-chatelier-is fs g in
+        same-at (is-same (le-chatelier-is es h) (j .pos) (rw (x .total-times, x .weight-times s) (omega arith))) j
+
+-- entries with k times the figures of others answer as those
+pub asks-times : (k : ℕ) (es fs : Entries) → 0 < k → Times k es fs → (t : Option ℤ) → modelAsks es t ≡ modelAsks fs t
+unfolding modelAsks
+asks-times k es fs p x t = go (eqb (total fs) 0) refl
+  where
+    go : (b : Bool) → eqb (total fs) 0 ≡ b → modelAsks es t ≡ modelAsks fs t
+    go true e =
+        let z = ap (λ (n : ℕ). k * n) (eqb-true (total fs) 0 e) in
+        rw (e, eq-eqb (total es) 0 (omega (arith, x .total-times)))
+    go false e =
+        let g : 0 < total fs = pos-of-ne-zero (eqb-false (total fs) 0 e) in
+        let h : 0 < total es = rw (x .total-times) (mul-pos p g) in
+        let same : (s : Side) → limitFigure s es (natAbs (meant t)) ≡ limitFigure s fs (natAbs (meant t)) = λ s. limit-times s (natAbs (meant t)) k es fs x h g in
+        rw (e, ne-eqb (total es) 0 (λ (z : total es ≡ 0). omega arith), same lower, same upper)

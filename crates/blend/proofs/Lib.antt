@@ -1,0 +1,14 @@
+pub mod Temperatures
+pub mod Weights
+pub mod Bounds
+pub mod Admitted
+pub mod Sums
+pub mod LeChatelier
+pub mod Bracket
+pub mod Keepers
+pub mod Runs
+pub mod Refusals
+pub mod Routes
+pub mod Theorem
+pub mod Figures
+pub mod Answers

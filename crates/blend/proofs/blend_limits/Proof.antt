@@ -1,0 +1,15 @@
+-- `blend_limits` meets its contract: with none named, the usual temperature is meant.
+use borrow.Author.Needs.{needs}
+use Rattle.blend.specs.Blend.{asking}
+use Rattle.blend.proofs.blend_limits.Statement.{statement}
+use Rattle.blend.proofs.blend_limits.Tie as tie
+
+blend-limits-at-requires : tie.Need-blend-limits-at-requires
+blend-limits-at-requires c κs = search needs
+
+returns : tie.Need-returns
+unfolding asking
+returns c = c .blend-limits-at .ensures
+
+pub blend-limits-spec : {M : Type 1} → statement M
+blend-limits-spec = tie.close (tie.spec blend-limits-at-requires returns)

@@ -1,0 +1,266 @@
+// Blends of fuels (document 01: pools): what Le Chatelier's rule needs of all that one took in.
+ghost use mathlib.Core.Path.{_≡_};
+ghost use mathlib.Core.List.{List};
+ghost use mathlib.Core.Option.{some, none};
+ghost use Prim.Native.Nat.{_*_, _≤_, _<_};
+ghost use Rattle.refusal.specs.Outcome.{refused, answered, refusal};
+ghost use Rattle.rounding.specs.Round.{roundDiv};
+ghost use Rattle.oxygen.specs.Limit.{lower, upper};
+ghost use Rattle.blend.specs.Fuel.{counts, text as fuel-text};
+ghost use Rattle.blend.specs.Blend.{emptyBlend, weight, within, withFuel, together, adding, joining, asking, bothAt, shownBlend, shownLimits};
+ghost use Rattle.blend.specs.Calls.{Call};
+ghost use Rattle.blend.specs.Claims.{Claims};
+ghost use Rattle.blend.specs.Held.{sumTest, Within, gasOr, Rated, TakenSays};
+use formula::Atoms;
+use oxygen::Purpose;
+use oxygen::admit;
+use oxygen::admit_text;
+use refusal::Figure;
+use refusal::Refusal;
+use rounding::round_div;
+
+// Total parts, and the sums of parts times aβ + b: lower in thousandths, upper in two-thousandths.
+#[repr(C)]
+pub struct Blend {
+    pub total: u64,
+    pub lower: u64,
+    pub upper: u64,
+}
+
+// The blend after an adding or a joining, or a refusal and the blend as given.
+#[repr(C)]
+pub struct Blended {
+    pub refusal: Refusal,
+    pub blend: Blend,
+}
+
+// Both limits in hundredths of a volume percent, or a refusal and zeros.
+#[repr(C)]
+pub struct Limits {
+    pub refusal: Refusal,
+    pub lower: u64,
+    pub upper: u64,
+}
+
+// 25 °C: the temperature that is meant where none is named.
+pub const USUAL_TEMPERATURE: i64 = 2500;
+
+// Whether a sum of v parts lies between low and high for each.
+fn sum_within(low: u64, high: u64, v: u64, x: u64) -> bool
+    requires { ⌜ (low ≤ 10000000) × (high ≤ 10000000) × (v ≤ 1000000) ⌝ }
+    ensures { λ r. ⌜ r ≡ sumTest low high v x ⌝ }
+{
+    if x < low * v {
+        return false;
+    }
+    x <= high * v
+}
+
+// Whether a blend is not out of bounds.
+fn is_within(b: Blend) -> bool
+    ensures { λ r. ⌜ r ≡ within b ⌝ }
+{
+    let v = b.total;
+    if 1000000 < v {
+        return false;
+    }
+    if !sum_within(9021, 2175679, v, b.lower) {
+        return false;
+    }
+    sum_within(2670, 397108, v, b.upper)
+}
+
+// aβ + b, of β in quarters.
+fn weigh_lower(q: u64) -> u64
+    requires { ⌜ q ≤ 3800 ⌝ }
+    ensures { λ r. ⌜ (r ≡ weight lower q) × (r ≤ 10000000) ⌝ }
+{
+    2171 * q + 4679
+}
+
+fn weigh_upper(q: u64) -> u64
+    requires { ⌜ q ≤ 3800 ⌝ }
+    ensures { λ r. ⌜ (r ≡ weight upper q) × (r ≤ 10000000) ⌝ }
+{
+    if q <= 30 {
+        775 * q + 1120
+    } else {
+        384 * q + 13108
+    }
+}
+
+fn with_fuel(b: Blend, parts: u64, q: u64) -> Blend
+    requires { ⌜ Within b × (q ≤ 3800) × (parts ≤ 1000000) ⌝ }
+    ensures { λ r. ⌜ r ≡ withFuel b parts q ⌝ }
+{
+    Blend {
+        total: b.total + parts,
+        lower: b.lower + parts * weigh_lower(q),
+        upper: b.upper + parts * weigh_upper(q),
+    }
+}
+
+fn with_blend(b: Blend, other: Blend) -> Blend
+    requires { ⌜ Within b × Within other ⌝ }
+    ensures { λ r. ⌜ r ≡ together b other ⌝ }
+{
+    Blend {
+        total: b.total + other.total,
+        lower: b.lower + other.lower,
+        upper: b.upper + other.upper,
+    }
+}
+
+fn changed(blend: Blend) -> Blended
+    ensures { λ r. ⌜ ((b : Blend) → r ≡ shownBlend b (answered blend)) ⌝ }
+{
+    Blended {
+        refusal: Refusal {
+            number: 0,
+            place: 0,
+        },
+        blend,
+    }
+}
+
+fn unchanged(blend: Blend, number: u64, place: u64) -> Blended
+    ensures { λ r. ⌜ r ≡ shownBlend blend (refused (refusal number place)) ⌝ }
+{
+    Blended {
+        refusal: Refusal { number, place },
+        blend,
+    }
+}
+
+// The blend with parts of a fuel whose β, or refusal, is given.
+fn take(b: Blend, fuel: Figure, parts: u64) -> Blended
+    requires { ⌜ Within b × (fuel .value ≤ 3800) ⌝ }
+    ensures { λ r. ⌜ TakenSays b fuel parts r ⌝ }
+{
+    let declined = fuel.refusal;
+    if 0 < declined.number {
+        return unchanged(b, declined.number, declined.place);
+    }
+    if 1000000 - b.total < parts {
+        return unchanged(b, refusal::TOTAL_TOO_LARGE, 0);
+    }
+    changed(with_fuel(b, parts, fuel.value))
+}
+
+fn no_limits(number: u64, place: u64) -> Limits
+    ensures { λ r. ⌜ r ≡ shownLimits (refused (refusal number place)) ⌝ }
+{
+    Limits {
+        refusal: Refusal { number, place },
+        lower: 0,
+        upper: 0,
+    }
+}
+
+// A gas temperature that is admitted; 20001 for any other.
+fn gas_temperature(t: i64) -> u64
+    ensures { λ r. ⌜ r ≡ gasOr t ⌝ }
+{
+    if t < 0 {
+        return 20001;
+    }
+    if 20000 < t {
+        return 20001;
+    }
+    t as u64
+}
+
+// scale · v · factor / (divisor · x), rounded.
+fn rated(scale: u64, v: u64, factor: u64, divisor: u64, x: u64) -> u64
+    requires { ⌜ Rated scale v factor divisor x ⌝ }
+    ensures { λ r. ⌜ r ≡ roundDiv (scale * v * factor) (divisor * x) ⌝ }
+{
+    round_div(scale * v * factor, divisor * x)
+}
+
+// Both limits at an admitted temperature, of a blend that is not empty.
+fn limits_from(b: Blend, t: u64) -> Limits
+    requires { ⌜ Within b × (0 < b .total) × (t ≤ 20000) ⌝ }
+    ensures { λ r. ⌜ r ≡ shownLimits (answered (bothAt b t)) ⌝ }
+{
+    Limits {
+        refusal: Refusal {
+            number: 0,
+            place: 0,
+        },
+        lower: rated(25000, b.total, 127700 - t, 313, b.lower),
+        upper: rated(50000, b.total, t + 78700, 203, b.upper),
+    }
+}
+
+// An empty blend. Of blends that begin empty, and of every list of calls on them, the claims of specs/Claims.antt hold.
+pub fn empty_blend() -> Blend
+    ensures { λ r. ⌜ r ≡ emptyBlend ⌝ }
+    ensures every_list { λ _. ⌜ ((calls : List Call) → Claims calls) ⌝ }
+{
+    Blend {
+        total: 0,
+        lower: 0,
+        upper: 0,
+    }
+}
+
+// The blend with parts of a fuel more, given by its atom counts. Refusals 28, 2, 3, 4, 8.
+pub fn add_fuel(b: Blend, fuel: Atoms, parts: u64) -> Blended
+    ensures { λ r. ⌜ r ≡ shownBlend b (adding b (counts fuel) parts) ⌝ }
+{
+    if !is_within(b) {
+        return unchanged(b, refusal::BLEND_OUT_OF_BOUNDS, 0);
+    }
+    take(b, admit(Purpose::GasLimits, fuel), parts)
+}
+
+// The same of a fuel given by its formula text. Refusals 28, then the reader's 1 and 2, then 3, 4, 8.
+pub fn add_fuel_text(b: Blend, text: &[u8], parts: u64) -> Blended
+    ensures { λ r. ⌜ r ≡ shownBlend b (adding b (fuel-text (now (text .entry))) parts) ⌝ }
+{
+    if !is_within(b) {
+        return unchanged(b, refusal::BLEND_OUT_OF_BOUNDS, 0);
+    }
+    take(b, admit_text(Purpose::GasLimits, text), parts)
+}
+
+// The first blend with all of the second. Refusals 28 with place 0, or 1 if only the second is out of bounds; 8.
+pub fn join_blends(b: Blend, other: Blend) -> Blended
+    ensures { λ r. ⌜ r ≡ shownBlend b (joining b other) ⌝ }
+{
+    if !is_within(b) {
+        return unchanged(b, refusal::BLEND_OUT_OF_BOUNDS, 0);
+    }
+    if !is_within(other) {
+        return unchanged(b, refusal::BLEND_OUT_OF_BOUNDS, 1);
+    }
+    if 1000000 - b.total < other.total {
+        return unchanged(b, refusal::TOTAL_TOO_LARGE, 0);
+    }
+    changed(with_blend(b, other))
+}
+
+// Both limits at a temperature in hundredths of a degree. Refusals 28, 9, 10.
+pub fn blend_limits_at(b: Blend, temperature: i64) -> Limits
+    ensures { λ r. ⌜ r ≡ shownLimits (asking b (some temperature)) ⌝ }
+{
+    if !is_within(b) {
+        return no_limits(refusal::BLEND_OUT_OF_BOUNDS, 0);
+    }
+    if b.total == 0 {
+        return no_limits(refusal::BLEND_EMPTY, 0);
+    }
+    let t = gas_temperature(temperature);
+    if 20000 < t {
+        return no_limits(refusal::GAS_TEMPERATURE_OUTSIDE, 0);
+    }
+    limits_from(b, t)
+}
+
+// Both limits with no temperature named. Refusals 28, 9.
+pub fn blend_limits(b: Blend) -> Limits
+    ensures { λ r. ⌜ r ≡ shownLimits (asking b none) ⌝ }
+{
+    blend_limits_at(b, USUAL_TEMPERATURE)
+}

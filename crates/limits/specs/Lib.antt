@@ -1,0 +1,3 @@
+pub mod FuelLimits
+pub mod Concentration
+pub mod Held

@@ -1,0 +1,5 @@
+pub mod Beta
+pub mod Admission
+pub mod Stoichiometric
+pub mod Limit
+pub mod Held
