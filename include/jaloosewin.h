@@ -19,11 +19,20 @@ typedef struct { uint64_t number, place; } jlw_refusal;
 typedef struct { uint64_t count[10]; } jlw_atoms; /* C H O N S P F Cl Br Si */
 typedef struct { jlw_refusal refusal; jlw_atoms atoms; } jlw_formula;
 typedef struct { jlw_refusal refusal; uint64_t length; } jlw_written;
+typedef struct { jlw_refusal refusal; uint64_t value; } jlw_figure;
+typedef struct { jlw_refusal refusal; uint64_t lower, upper; } jlw_limits;
+/* Total parts, and the sums of parts times (a*beta + b): lower in thousandths, upper in two-thousandths. */
+typedef struct { uint64_t total, lower, upper; } jlw_blend;
+typedef struct { jlw_refusal refusal; jlw_blend blend; } jlw_blended;
 
 JLW_STATIC_ASSERT(sizeof(jlw_refusal) == 16 && offsetof(jlw_refusal, place) == 8, "jlw_refusal");
 JLW_STATIC_ASSERT(sizeof(jlw_atoms) == 80, "jlw_atoms");
 JLW_STATIC_ASSERT(sizeof(jlw_formula) == 96 && offsetof(jlw_formula, atoms) == 16, "jlw_formula");
 JLW_STATIC_ASSERT(sizeof(jlw_written) == 24 && offsetof(jlw_written, length) == 16, "jlw_written");
+JLW_STATIC_ASSERT(sizeof(jlw_figure) == 24 && offsetof(jlw_figure, value) == 16, "jlw_figure");
+JLW_STATIC_ASSERT(sizeof(jlw_limits) == 32 && offsetof(jlw_limits, lower) == 16 && offsetof(jlw_limits, upper) == 24, "jlw_limits");
+JLW_STATIC_ASSERT(sizeof(jlw_blend) == 24 && offsetof(jlw_blend, lower) == 8 && offsetof(jlw_blend, upper) == 16, "jlw_blend");
+JLW_STATIC_ASSERT(sizeof(jlw_blended) == 40 && offsetof(jlw_blended, blend) == 16, "jlw_blended");
 
 /* The atom counts of a formula text, as "CH3CH(OH)CH3".
    Refusals: 1, no formula: place 256 for more than 256 bytes, otherwise the length of the longest beginning that begins some formula;
@@ -35,6 +44,37 @@ jlw_formula jlw_read_formula(const uint8_t *text, size_t text_len);
    Refusals, which leave every byte of out as it was: 1, all counts are 0; 2, a count above 200: place the lowest such element; 17, out is too short. */
 jlw_written jlw_write_formula(uint64_t c, uint64_t h, uint64_t o, uint64_t n, uint64_t s, uint64_t p, uint64_t f, uint64_t cl, uint64_t br, uint64_t si,
                               uint8_t *out, size_t out_len);
+
+/* A fuel is its formula text. Its refusals, in this order, wherever one is given: 1 and 2 of the reader; 3, an element that is not admitted, or
+   carbon missing: place the lowest element at fault; 4, beta below 1/2. Temperatures are hundredths of a degree Celsius. */
+
+/* The oxygen coefficient beta in quarters. Admitted: carbon present, no Si. */
+jlw_figure jlw_oxygen_coefficient(const uint8_t *text, size_t text_len);
+
+/* The stoichiometric fraction in 0.01 %; refusals as for beta. */
+jlw_figure jlw_stoichiometric_fraction(const uint8_t *text, size_t text_len);
+
+/* Both flammability limits of a fuel in 0.01 volume percent. Admitted: carbon present, only C, H, O, N and at most one Cl.
+   Where no temperature is named, 25.00 is meant; otherwise refusal 10 outside 0.00 to 200.00, after the fuel's. */
+jlw_limits jlw_fuel_limits(const uint8_t *text, size_t text_len);
+jlw_limits jlw_fuel_limits_at(const uint8_t *text, size_t text_len, int64_t temperature);
+
+/* The mass concentrations of a fuel at both limits in 0.01 g/m3; refusals as for limits at a temperature. */
+jlw_limits jlw_mass_concentration(const uint8_t *text, size_t text_len, int64_t temperature);
+
+/* Blends. A blend goes in as its three numbers and comes back as a struct; with a refusal it comes back as given (of a joining, the first).
+   Refusal 28 comes before all others: a blend that no adding and joining from empty blends could have made (of a joining, place 1 if only the second is). */
+jlw_blend jlw_empty_blend(void);
+
+/* Adds whole parts of a fuel. Refusals: 28, those of the fuel as for limits, 8 where the total would exceed 1,000,000. */
+jlw_blended jlw_add_fuel(uint64_t total, uint64_t lower, uint64_t upper, const uint8_t *text, size_t text_len, uint64_t parts);
+
+/* Joins a second blend into a first. Refusals: 28, 8. */
+jlw_blended jlw_join_blends(uint64_t total, uint64_t lower, uint64_t upper, uint64_t other_total, uint64_t other_lower, uint64_t other_upper);
+
+/* Both limits of a blend by Le Chatelier's rule over all that it took in, in 0.01 volume percent. Refusals: 28, 9 where the total is 0, 10. */
+jlw_limits jlw_blend_limits(uint64_t total, uint64_t lower, uint64_t upper);
+jlw_limits jlw_blend_limits_at(uint64_t total, uint64_t lower, uint64_t upper, int64_t temperature);
 
 #ifdef __cplusplus
 }

@@ -119,7 +119,7 @@ module _ (s : Side) (t : ℕ) where
         (is-times (is-whole 100) (is-times (le-chatelier-is s es h) (correction-is s t)) .den-pos)
         (is-times (is-whole 100) (is-times (le-chatelier-is s fs g) (correction-is s t)) .den-pos)
 
-  pub bracketed : (es : Entries) → 0 < total es → Between s es t
+  pub bracketed : (es : Entries) → 0 < total es → Between s es t (limitFigure s es t)
   unfolding sum
   bracketed es h =
       let a = extreme (weightOf s) (λ a b. a ≤ b) at-most es h in

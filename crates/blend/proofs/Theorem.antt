@@ -1,20 +1,22 @@
 -- The claim holds of every list of calls.
 use mathlib.Core.Path.{_≡_, sym, ap, _∙_}
 use mathlib.Core.List.{List, List·Permᴰ}
+use mathlib.Core.Bool.{not}
 use mathlib.Core.Option.{Option}
 use Prim.Native.Nat.{ℕ, _≤_, _<_}
 use native.Mathlib.Nat.{pos-of-ne-zero}
 use native.Mathlib.Omega.{arith}
-use lib.Dec.{ltb}
+use lib.Dec.{ltb, eqb}
 use lib.IntN.{ℤ, natAbs}
-use borrow.Author.Tests.{eq-eqb}
-use Rattle.refusal.specs.Numbers.{blendEmpty}
-use Rattle.refusal.specs.Outcome.{Outcome, refused, refusal}
+use borrow.Author.Tests.{eqb-false}
+use Rattle.refusal.specs.Numbers.{blendEmpty, gasTemperatureOutside}
+use Rattle.refusal.specs.Outcome.{Outcome, refuse, valueOf}
+use Rattle.refusal.proofs.Outcomes.{refuse-passed}
 use Rattle.oxygen.specs.Limit.{lower, upper}
-use Rattle.blend.specs.Temperature.{meant}
-use Rattle.blend.specs.Blend.{Both, asking}
+use Rattle.blend.specs.Temperature.{meant, gasTemperature}
+use Rattle.blend.specs.Blend.{Both, noLimits, asking}
 use Rattle.blend.specs.Calls.{Call, add, join}
-use Rattle.blend.specs.Model.{Entry, Entries, sum, total, modelAsks}
+use Rattle.blend.specs.Model.{Entry, Entries, sum, total, bothOf, modelAsks}
 use Rattle.blend.specs.Claims.{blends, entries, blendAnswers, isRefused, refusedSomewhere, Different, Route, Claims}
 use Rattle.blend.proofs.Sums.{partsOf, Times, sum-perm, times-scaled, times-one}
 use Rattle.blend.proofs.LeChatelier.{asks-times}
@@ -23,16 +25,14 @@ use Rattle.blend.proofs.Runs.{all-alike, next-alike, by-model, in-bound
 use Rattle.blend.proofs.Refusals.{add-refused, join-refused}
 use Rattle.blend.proofs.Routes.{route-refused, route-has}
 
--- where limits are answered, the total is above zero
-asked-total : (es : Entries) (t : Option ℤ) (l : Both) → modelAsks es t ≡ Outcome.answered l → 0 < total es
+-- where limits are answered, the total is above zero, and they are the model's figures
+asked-limits : (es : Entries) (t : Option ℤ) (l : Both) → modelAsks es t ≡ Outcome.answered l → (0 < total es) × (bothOf es (natAbs (meant t)) ≡ l)
 unfolding modelAsks
-asked-total es t l h = pos-of-ne-zero none
-  where
-    none : total es ≡ 0 → ⊥
-    none z =
-        let e : refused (refusal blendEmpty 0) ≡ Outcome.answered l = rw (eq-eqb (total es) 0 z) at h in
-        let n : _≡_ {A = ℕ} 0 1 = cc in
-        omega arith
+asked-limits es t l h =
+    let both = bothOf es (natAbs (meant t)) in
+    let some = refuse-passed blendEmpty 0 (eqb (total es) 0) (refuse gasTemperatureOutside 0 (not (gasTemperature (meant t))) (Outcome.answered both)) l h in
+    let warm = refuse-passed gasTemperatureOutside 0 (not (gasTemperature (meant t))) (Outcome.answered both) l (some .1) in
+    (pos-of-ne-zero (eqb-false (total es) 0 (some .0)), ap (valueOf noLimits) (warm .1))
 
 -- blends with k times the figures of others answer as those
 blends-times : (calls others : List Call) (i j k : ℕ) → 0 < k → Times k (entries calls i) (entries others j) →
@@ -58,8 +58,8 @@ claims calls =
       by-le-chatelier = by-model calls;
       in-bounds = in-bounds calls;
       between = λ i t l h.
-          let v = asked-total (entries calls i) t l (sym (by-model calls i t) ∙ h) in
-          (bracketed lower (natAbs (meant t)) (entries calls i) v, bracketed upper (natAbs (meant t)) (entries calls i) v);
+          let v = asked-limits (entries calls i) t l (sym (by-model calls i t) ∙ h) in
+          rw (← v .1) (bracketed lower (natAbs (meant t)) (entries calls i) (v .0), bracketed upper (natAbs (meant t)) (entries calls i) (v .0));
       alike = λ others i j p. blends-times calls others i j 1 (omega arith) (times-one (entries calls i) (entries others j) (λ f. sum-perm f p));
       multiplied = λ others i j k h p. blends-times calls others i j k h (times-scaled k (entries others j) p);
       routes = λ all bs es w d r p. (routes-refused calls d r p, route-left calls d r p);

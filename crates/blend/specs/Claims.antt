@@ -56,21 +56,21 @@ abbrev pub alone : Entry → Entries
 alone e = record { fuel = e .fuel; parts = 1 } ∷ []
 
 -- some fuel with parts above zero has alone at t a limit of at most the blend's, and some one of at least that: unrounded (no fraction here is over 0),
--- and as answered
-pub record Between (s : Side) (es : Entries) (t : ℕ) : Type 0 where
+-- and as answered, where x is the blend's
+pub record Between (s : Side) (es : Entries) (t x : ℕ) : Type 0 where
   pub over : 0 < limitAt s es t .den
   pub low : Entry
   pub low-taken : List·Memᴰ low es
   pub low-present : 0 < low .parts
   pub low-over : 0 < limitAt s (alone low) t .den
   pub above-exact : limitAt s (alone low) t ⊑ limitAt s es t
-  pub above : limitFigure s (alone low) t ≤ limitFigure s es t
+  pub above : limitFigure s (alone low) t ≤ x
   pub high : Entry
   pub high-taken : List·Memᴰ high es
   pub high-present : 0 < high .parts
   pub high-over : 0 < limitAt s (alone high) t .den
   pub below-exact : limitAt s es t ⊑ limitAt s (alone high) t
-  pub below : limitFigure s es t ≤ limitFigure s (alone high) t
+  pub below : x ≤ limitFigure s (alone high) t
 
 -- MULTIPLIED. All parts times k.
 unfoldable pub scaled : ℕ → Entries → Entries
@@ -113,7 +113,7 @@ pub record Claims (calls : List Call) : Type 0 where
   pub in-bounds : (i : ℕ) → within (blends calls i) ≡ true
   -- each limit lies between the smallest and the largest that the fuels with parts above zero have alone
   pub between : (i : ℕ) (t : Option ℤ) (l : Both) → asking (blends calls i) t ≡ Outcome.answered l →
-      Between lower (entries calls i) (natAbs (meant t)) × Between upper (entries calls i) (natAbs (meant t))
+      Between lower (entries calls i) (natAbs (meant t)) (l .lower) × Between upper (entries calls i) (natAbs (meant t)) (l .upper)
   -- blends of one list or of two that took in the same entries, in any order, answer alike
   pub alike : (others : List Call) (i j : ℕ) → List·Permᴰ (entries calls i) (entries others j) → (t : Option ℤ) → asking (blends calls i) t ≡ asking (blends others j) t
   -- also when all parts of one are multiplied by a whole factor above zero

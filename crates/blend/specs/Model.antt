@@ -50,6 +50,9 @@ limitAt s es t = leChatelier s es ⊠ correction s t
 unfoldable pub limitFigure : Side → Entries → ℕ → ℕ
 limitFigure s es t = figure (whole 100 ⊠ limitAt s es t)
 
+abbrev pub bothOf : Entries → ℕ → Both
+bothOf es t = record { lower = limitFigure lower es t; upper = limitFigure upper es t }
+
 -- THE MODEL
 abbrev pub entryOf : Fuel → ℕ → Entry
 entryOf f v = record { fuel = valueOf (each 0) (fuelAtoms f); parts = v }
@@ -67,7 +70,7 @@ unfoldable pub modelAsks : Entries → Option ℤ → Outcome Both
 modelAsks es t =
     refuse blendEmpty 0 (eqb (total es) 0)
     (refuse gasTemperatureOutside 0 (not (gasTemperature (meant t)))
-    (answered (record { lower = limitFigure lower es (natAbs (meant t)); upper = limitFigure upper es (natAbs (meant t)) })))
+    (answered (bothOf es (natAbs (meant t)))))
 
 abbrev pub model : Keeper Entries
 model = record { adds = modelAdds; joins = modelJoins; asks = modelAsks }
