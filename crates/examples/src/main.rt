@@ -5,15 +5,18 @@ ghost use Rattle.examples.specs.Worked.{examples as worked, AllAsPrinted
 use blend::Blend;
 use blend::Blended;
 use blend::Limits;
+use bonds::Bonds;
+use formula::Atoms;
 use libc::STDOUT_FILENO;
 use refusal::Refusal;
+use refusal::Temperature;
 
 // The number of worked examples. Each has the answer that is printed for it.
 fn worked_examples() -> u64
     ensures { λ r. ⌜ r ≡ length worked ⌝ }
     ensures printed { λ _. ⌜ AllAsPrinted ⌝ }
 {
-    8
+    15
 }
 
 fn show(text: &[u8]) {
@@ -263,6 +266,110 @@ fn blends() {
     show_joined(some, nonsense);
 }
 
+fn show_temperature(name: &[u8], answer: Temperature) {
+    show(name);
+    show(b": ");
+    let refusal = answer.refusal;
+    if 0 < refusal.number {
+        show_refusal(refusal);
+        return;
+    }
+    if answer.value < 0 {
+        show(b"-");
+    }
+    show_hundredths(rounding::size(answer.value));
+    show(b"\n");
+}
+
+// Carbon and hydrogen, and oxygen.
+fn fuel(c: u64, h: u64, o: u64) -> Atoms {
+    Atoms {
+        count: [c, h, o, 0, 0, 0, 0, 0, 0, 0],
+    }
+}
+
+// C–C, C…C, C–H, C–O and O–H bonds.
+fn bonds_of(single: u64, ring: u64, c_h: u64, c_o: u64, o_h: u64) -> Bonds {
+    let mut count = [0u64; 22];
+    count[0] = single;
+    count[1] = ring;
+    count[3] = c_h;
+    count[4] = c_o;
+    count[17] = o_h;
+    Bonds { count }
+}
+
+fn show_bonds(name: &[u8], method: u64, atoms: Atoms, bonds: Bonds, boiling: i64) {
+    show_temperature(
+        name,
+        testing::jlt_flash_by_bonds(method, atoms, bonds, boiling),
+    );
+}
+
+fn flash_points() {
+    show(b"\nflash and fire points\n");
+    let ethanol = bonds_of(1, 0, 5, 1, 1);
+    show_bonds(b"ethanol, closed cup", 1, fuel(2, 6, 1), ethanol, 7840);
+    show_bonds(b"ethanol, open cup", 2, fuel(2, 6, 1), ethanol, 7840);
+    show_bonds(b"ethanol, fire point", 3, fuel(2, 6, 1), ethanol, 7840);
+    show_temperature(b"ethanol, alcohols", testing::jlt_flash_by_class(2, 7840));
+    let benzene = bonds_of(0, 6, 6, 0, 0);
+    show_bonds(b"benzene at 80.10", 1, fuel(6, 6, 0), benzene, 8010);
+    show_bonds(b"benzene at 80.05", 1, fuel(6, 6, 0), benzene, 8005);
+    show_bonds(b"toluene", 1, fuel(7, 8, 0), bonds_of(1, 6, 8, 0, 0), 11060);
+    show_bonds(b"method 4", 4, fuel(2, 6, 1), ethanol, 7840);
+    show_bonds(
+        b"201 C-H bonds",
+        1,
+        fuel(2, 6, 1),
+        bonds_of(1, 0, 201, 1, 1),
+        7840,
+    );
+    show_bonds(b"bonds of another", 1, fuel(7, 8, 0), benzene, 7840);
+    show_bonds(b"boiling above 600.00", 1, fuel(2, 6, 1), ethanol, 60001);
+    show_temperature(b"class 11", testing::jlt_flash_by_class(11, 7840));
+}
+
+fn show_lower(name: &[u8], fuel: Atoms) {
+    show_temperature(
+        name,
+        testing::jlt_lower_temperature_limit(fuel, &[0, 1000, 2000], &[1000, 2000, 4000]),
+    );
+}
+
+fn show_by_curve(
+    name: &[u8],
+    method: u64,
+    diffusion: u64,
+    temperatures: &[i64],
+    pressures: &[u64],
+) {
+    show_temperature(
+        name,
+        testing::jlt_flash_by_curve(method, fuel(6, 6, 0), diffusion, temperatures, pressures),
+    );
+}
+
+// The lower temperature limits, and C6H6 by formula (35).
+fn curves() {
+    show(b"\ncurves\n");
+    show_lower(b"C2H6", fuel(2, 6, 0));
+    show_lower(b"C3H8", fuel(3, 8, 0));
+    show_lower(b"CH4", fuel(1, 4, 0));
+    show_lower(b"C40H82", fuel(40, 82, 0));
+    show_by_curve(b"C6H6", 1, 800, &[0, 1000, 2000], &[1000, 2000, 4000]);
+    show_by_curve(b"method 0", 0, 800, &[0, 1000, 2000], &[1000, 2000, 4000]);
+    show_by_curve(b"no diffusion", 1, 0, &[0, 1000, 2000], &[1000, 2000, 4000]);
+    show_by_curve(
+        b"not above the one before",
+        1,
+        800,
+        &[0, 1000, 1000],
+        &[1000, 2000, 4000],
+    );
+    show_by_curve(b"unequal lengths", 1, 800, &[0, 1000, 2000], &[1000, 2000]);
+}
+
 fn main() {
     io::print_decimal(STDOUT_FILENO, worked_examples());
     show(b" worked examples proved\n");
@@ -271,4 +378,6 @@ fn main() {
     oxygen_coefficients();
     fuel_limits();
     blends();
+    flash_points();
+    curves();
 }

@@ -8,11 +8,10 @@ use native.Mathlib.Omega.{arith}
 use lib.Dec.{ltb}
 use lib.IntN.{ℤ, natAbs}
 use Rattle.refusal.specs.Numbers.{totalTooLarge, gasTemperatureOutside, blendOutOfBounds}
-use Rattle.refusal.specs.Outcome.{Outcome, refused, answered, refusal, refuse, refusalOf, valueOf, andThen, Numbered}
+use Rattle.refusal.specs.Outcome.{Outcome, refused, answered, refusal, refuse, valueOf, andThen, Numbered}
 use Rattle.refusal.proofs.Outcomes.{told-refused, told-answered, refuse-numbered, andThen-numbered}
-use Rattle.rounding.specs.Round.{roundDiv}
 use Rattle.rounding.proofs.Rounding.{round-le}
-use Rattle.rounding.proofs.Fractions.{Is, is-same}
+use Rattle.rounding.proofs.Fractions.{is-same}
 use Rattle.formula.specs.declared.Atoms.{Atoms}
 use Rattle.formula.specs.Elements.{each}
 use Rattle.formula.specs.Reading.{reading, ofText}
@@ -25,13 +24,12 @@ use Rattle.blend.specs.declared.Blended.{Blended}
 use Rattle.blend.specs.declared.Limits.{Limits}
 use Rattle.blend.specs.Temperature.{meant, gasTemperature}
 use Rattle.blend.specs.Fuel.{Fuel, counts, text, fuelAtoms, fuelBeta}
-use Rattle.blend.specs.Blend.{Both, emptyBlend, unit, weight, within, withFuel, taking, adding, asking, blendLimit, shownBlend, shownLimits}
-use Rattle.blend.specs.Calls.{Call, add, changed, put, answerTo, next, after}
-use Rattle.blend.specs.Model.{Entry, Entries, sum, total, limitFigure, limitAt, entryOf, modelAdds, modelAsks}
-use Rattle.blend.specs.Claims.{Claims}
-use Rattle.blend.proofs.Weights.{limit-is, unit-positive, weight-positive}
+use Rattle.blend.specs.Blend.{emptyBlend, within, withFuel, taking, adding, asking, blendLimit, shownBlend, shownLimits}
+use Rattle.blend.specs.Calls.{add, changed, put, answerTo, next, after}
+use Rattle.blend.specs.Model.{Entries, sum, total, limitFigure, limitAt, modelAdds, modelAsks}
+use Rattle.blend.proofs.Weights.{limit-is, weight-positive}
 use Rattle.blend.proofs.Admitted.{fuel-beta}
-use Rattle.blend.proofs.Sums.{weighs, blendOf}
+use Rattle.blend.proofs.Sums.{blendOf}
 use Rattle.blend.proofs.LeChatelier.{same-at, le-chatelier-is, blend-limit}
 use Rattle.blend.proofs.Theorem.{claims}
 use Rattle.blend.proofs.Figures.{lower-figure, upper-figure}

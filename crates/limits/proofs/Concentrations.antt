@@ -10,8 +10,6 @@ use lib.IntN.{ℤ, natAbs}
 use Rattle.refusal.specs.Numbers.{gasTemperatureOutside}
 use Rattle.refusal.specs.Outcome.{Outcome, refused, answered, refuse, valueOf, andThen, Numbered}
 use Rattle.refusal.proofs.Outcomes.{told-refused, told-answered, refuse-numbered, andThen-numbered, refuse-passed, apart}
-use Rattle.rounding.specs.Round.{roundDiv}
-use Rattle.rounding.specs.Fraction.{_over_, whole, _⊠_, _⊘_, figure}
 use Rattle.rounding.proofs.Fractions.{Is, is-over, is-whole, is-times, is-by, is-same, figure-is}
 use Rattle.formula.specs.declared.Element.the-variants.{Carbon, Hydrogen, Oxygen, Nitrogen, Chlorine}
 use Rattle.formula.specs.declared.Atoms.{Atoms}
@@ -21,15 +19,15 @@ use Rattle.formula.specs.Reading.{reading, ofText}
 use Rattle.oxygen.specs.declared.Purpose.the-variants.{GasLimits}
 use Rattle.oxygen.specs.Beta.{beta}
 use Rattle.oxygen.specs.Admission.{admission}
-use Rattle.oxygen.specs.Limit.{Side, lower, upper}
+use Rattle.oxygen.specs.Limit.{lower, upper}
 use Rattle.oxygen.proofs.Admissions.{admission-numbered, admitted-facts}
 use Rattle.blend.specs.declared.Limits.{Limits}
 use Rattle.blend.specs.Temperature.{meant, gasTemperature}
-use Rattle.blend.specs.Fuel.{Fuel, counts, text, fuelBeta, fuelAtoms}
+use Rattle.blend.specs.Fuel.{counts, text, fuelBeta}
 use Rattle.blend.specs.Blend.{Both, noLimits, shownLimits}
 use Rattle.blend.proofs.Temperatures.{gas-most}
 use Rattle.blend.proofs.Admitted.{admitted-beta}
-use Rattle.limits.specs.FuelLimits.{fuelFigure, bothFigures, fuelLimits}
+use Rattle.limits.specs.FuelLimits.{bothFigures, fuelLimits}
 use Rattle.limits.specs.Concentration.{molarMass, molarVolume, concentration, massConcentration}
 use Rattle.limits.specs.Held.{tenths, rate}
 use Rattle.limits.proofs.Alone.{figure-most}
@@ -95,18 +93,19 @@ module _ (a : Atoms) (z : ℤ) (given : Limits) (e : given ≡ shownLimits (fuel
   abbrev shown : Outcome Both → Limits
   shown o = shownLimits (andThen o (ratesAt a z))
 
+  pub limits-refused : 0 < given .refusal .number → fuelLimits (counts a) (some z) ≡ refused (given .refusal)
+  limits-refused l = rw e (told-refused (fuelLimits (counts a) (some z)) (rw e at l))
+
   pub rate-refused : 0 < given .refusal .number → given ≡ shownLimits (massConcentration (counts a) z)
   unfolding massConcentration
-  rate-refused l =
-      let o : fuelLimits (counts a) (some z) ≡ refused (given .refusal) = rw e (told-refused (fuelLimits (counts a) (some z)) (rw e at l)) in
-      e ∙ ap shownLimits o ∙ ap shown (sym o)
+  rate-refused l = let o = limits-refused l in e ∙ ap shownLimits o ∙ ap shown (sym o)
 
   module _ (l : given .refusal .number ≤ 0) where
-    answer : fuelLimits (counts a) (some z) ≡ answered (record { lower = given .lower; upper = given .upper })
-    answer = rw e (told-answered noLimits (fuelLimits (counts a) (some z)) (limits-numbered a (some z)) (omega (arith, rw e at l)))
+    pub limits-answered : fuelLimits (counts a) (some z) ≡ answered (record { lower = given .lower; upper = given .upper })
+    limits-answered = rw e (told-answered noLimits (fuelLimits (counts a) (some z)) (limits-numbered a (some z)) (omega (arith, rw e at l)))
 
     pub rate-facts : Asked a z (record { lower = given .lower; upper = given .upper })
-    rate-facts = asked-facts a z _ answer
+    rate-facts = asked-facts a z _ limits-answered
 
     pub rate-answered : (t x y : ℕ) → t ≡ natAbs z → x ≡ rate (tenths a) t (given .lower) → y ≡ rate (tenths a) t (given .upper)
         → record { refusal = record { number = 0; place = 0 }; lower = x; upper = y } ≡ shownLimits (massConcentration (counts a) z)
@@ -115,7 +114,7 @@ module _ (a : Atoms) (z : ℤ) (given : Limits) (e : given ≡ shownLimits (fuel
         ap₂ (λ (x y : ℕ). record { refusal = record { number = 0; place = 0 }; lower = x; upper = y })
         (p ∙ ap (λ (k : ℕ). rate (tenths a) k (given .lower)) i ∙ concentration-is a (natAbs z) (given .lower))
         (q ∙ ap (λ (k : ℕ). rate (tenths a) k (given .upper)) i ∙ concentration-is a (natAbs z) (given .upper))
-        ∙ ap shown (sym answer)
+        ∙ ap shown (sym limits-answered)
 
 -- a text is asked as the counts that it reads to
 pub concentration-of-text : (t : List ℕ) (z : ℤ) → ofText (λ a. massConcentration (counts a) z) t ≡ massConcentration (text t) z

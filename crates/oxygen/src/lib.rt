@@ -16,6 +16,9 @@ use refusal::Figure;
 use refusal::Refusal;
 use rounding::round_div;
 
+// 25 °C: the temperature at which the limits' formulas were fitted.
+pub const FIT_TEMPERATURE: i64 = 2500;
+
 // What a fuel is admitted to.
 pub enum Purpose {
     OxygenCoefficient,

@@ -3,7 +3,9 @@ use Prim.Native.Nat.{ℕ, _<_}
 use mathlib.Core.Bool.{Bool, true, false}
 use mathlib.Core.Option.{Option, some, none}
 use Rattle.refusal.specs.declared.Refusal.{Refusal}
+use lib.IntN.{ℤ, pos}
 use Rattle.refusal.specs.declared.Figure.{Figure}
+use Rattle.refusal.specs.declared.Temperature.{Temperature}
 
 pub data Outcome (A : Type 0) : Type 0 where
   refused : Refusal → Outcome A
@@ -40,6 +42,9 @@ andThen (answered a) f = f a
 -- a figure as it is answered: with a refusal its value is 0
 abbrev pub shownFigure : Outcome ℕ → Figure
 shownFigure o = record { refusal = refusalOf o; value = valueOf 0 o }
+
+abbrev pub shownTemperature : Outcome ℤ → Temperature
+shownTemperature o = record { refusal = refusalOf o; value = valueOf (pos 0) o }
 
 -- a refusal has a number above 0
 abbrev pub Numbered : {A : Type 0} → Outcome A → Type 0

@@ -14,6 +14,13 @@ pub struct Figure {
     pub value: u64,
 }
 
+// A temperature in hundredths of a degree, or a refusal and 0.
+#[repr(C)]
+pub struct Temperature {
+    pub refusal: Refusal,
+    pub value: i64,
+}
+
 // The table's numbers. specs/Numbers.antt has the same names, with what each is given for.
 pub const NO_FORMULA: u64 = 1;
 

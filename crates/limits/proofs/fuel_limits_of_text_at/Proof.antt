@@ -5,7 +5,6 @@ use mathlib.Core.Option.{some}
 use native.Mathlib.Omega.{arith}
 use mir.Facts.{toZ-ofZ}
 use Rattle.formula.proofs.Texts.{text-refused, text-read}
-use Rattle.formula.specs.declared.Atoms.{Atoms}
 use Rattle.blend.specs.Fuel.{counts}
 use Rattle.blend.specs.Blend.{shownLimits}
 use Rattle.limits.specs.FuelLimits.{fuelLimits}

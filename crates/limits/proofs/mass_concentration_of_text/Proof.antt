@@ -4,7 +4,6 @@ use mathlib.Core.Path.{ap, _∙_}
 use native.Mathlib.Omega.{arith}
 use mir.Facts.{toZ-ofZ}
 use Rattle.formula.proofs.Texts.{text-refused, text-read}
-use Rattle.formula.specs.declared.Atoms.{Atoms}
 use Rattle.blend.specs.Fuel.{counts}
 use Rattle.blend.specs.Blend.{shownLimits}
 use Rattle.limits.specs.Concentration.{massConcentration}

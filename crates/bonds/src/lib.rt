@@ -1,0 +1,62 @@
+// Bond kinds and counts, and what the counts of atoms and bonds have to agree in.
+ghost use mathlib.Core.Path.{_≡_};
+ghost use Prim.Native.Nat.{_≤_};
+ghost use Rattle.refusal.specs.Lowest.{orZero};
+ghost use Rattle.bonds.specs.Kinds.{countOf, aboveAt, hydrogenDiffers};
+use formula::Atoms;
+
+// Bond counts, indexed by kind less one.
+#[repr(C)]
+pub struct Bonds {
+    pub count: [u64; 22],
+}
+
+// The count at a place: elements 1 to 10, then bond kinds as 11 to 32.
+fn count_at(atoms: Atoms, bonds: Bonds, place: usize) -> u64
+    requires { ⌜ (1 ≤ place) × (place ≤ 32) ⌝ }
+    ensures { λ r. ⌜ r ≡ countOf atoms bonds place ⌝ }
+{
+    if place <= 10 {
+        atoms.count[place - 1]
+    } else {
+        bonds.count[place - 11]
+    }
+}
+
+// The lowest place with a count above 200, 0 where there is none.
+pub fn first_above_200(atoms: Atoms, bonds: Bonds) -> u64
+    ensures { λ r. ⌜ r ≡ orZero (aboveAt atoms bonds) ⌝ }
+{
+    let mut i: usize = 0;
+    while i < 32 {
+        if 200 < count_at(atoms, bonds, 1 + i) {
+            return i as u64 + 1;
+        }
+        i += 1;
+    }
+    0
+}
+
+// Whether the H atoms differ from the H bonds, of kinds 4, 15, 17, 18 and 19. (Their sum might not fit, so each is taken away.)
+pub fn hydrogen_differs(atoms: Atoms, bonds: Bonds) -> bool
+    ensures { λ r. ⌜ r ≡ hydrogenDiffers atoms bonds ⌝ }
+{
+    let h = atoms.count[1];
+    let a = bonds.count[3];
+    if h < a {
+        return true;
+    }
+    let b = bonds.count[14];
+    if h - a < b {
+        return true;
+    }
+    let c = bonds.count[16];
+    if h - a - b < c {
+        return true;
+    }
+    let d = bonds.count[17];
+    if h - a - b - c < d {
+        return true;
+    }
+    h - a - b - c - d != bonds.count[18]
+}

@@ -1,0 +1,49 @@
+-- What the search over an accepted curve answers, by the points passed and the segment searched.
+use mathlib.Core.Path.{_≡_, ap, _∙_}
+use mathlib.Core.Bool.{true, false}
+use Prim.Native.Nat.{ℕ, _-_, _≤_, _<_}
+use native.Mathlib.Nat.{le-trans, lt-of-le-of-lt}
+use native.Mathlib.Omega.{arith}
+use Rattle.refusal.specs.Numbers.{trueAtFirst, falseAtLast}
+use Rattle.refusal.specs.Outcome.{refused, answered, refusal}
+use Rattle.curve.specs.Smallest.{met, celsius, smallest}
+use Rattle.curve.specs.Curve.{Curve, points, temperature, pressure, between, segment, pressureAt, searchedOn, Accepted}
+use Rattle.curve.specs.Held.{holds}
+use Rattle.curve.specs.declared.Condition.{Condition}
+use Rattle.curve.proofs.Smallest.{smallest-least}
+use Rattle.curve.proofs.Rising.{starts, ends}
+use Rattle.curve.proofs.Answers.{holds-grows, refuses-first, refuses-last, answers-at}
+use Rattle.curve.proofs.Curves.{On, warm, goes-up, at-point, on-segment, pressure-rises, spans}
+
+module _ (c : Condition) (k : Curve) (ok : Accepted k) where
+  met-at : (i : ℕ) → i < points k → met (holds c) (pressureAt k) (temperature k i) ≡ holds c (temperature k i) (pressure k i)
+  met-at i h = ap (holds c (temperature k i)) (at-point k ok i h)
+
+  pub search-first : holds c (temperature k 0) (pressure k 0) ≡ true → searchedOn (holds c) k ≡ refused (refusal trueAtFirst 0)
+  search-first e = refuses-first (holds c) (pressureAt k) _ _ (met-at 0 (omega (arith, ok .least)) ∙ e)
+
+  pub search-last : holds c (temperature k (points k - 1)) (pressure k (points k - 1)) ≡ false → searchedOn (holds c) k ≡ refused (refusal falseAtLast 0)
+  search-last e = refuses-last (holds c) (pressureAt k) _ _ (holds-grows c) (pressure-rises k ok) (spans k ok) (met-at (points k - 1) (omega (arith, ok .least)) ∙ e)
+
+  -- from the search of the segment that ends at point i
+  module _ (i : ℕ) (l : 1 ≤ i) (h : i < points k) where
+    pub starts-unmet : holds c (temperature k (i - 1)) (pressure k (i - 1)) ≡ false → met (holds c) (between (segment k i)) (temperature k (i - 1)) ≡ false
+    starts-unmet e = ap (holds c _) (starts (segment k i) (goes-up k ok i l h)) ∙ e
+
+    pub ends-met : holds c (temperature k i) (pressure k i) ≡ true → met (holds c) (between (segment k i)) (temperature k i) ≡ true
+    ends-met e = ap (holds c _) (ends (segment k i) (goes-up k ok i l h)) ∙ e
+
+    abbrev here : ℕ
+    here = smallest (met (holds c) (between (segment k i))) (temperature k (i - 1)) (temperature k i)
+
+    pub search-in : holds c (temperature k (i - 1)) (pressure k (i - 1)) ≡ false → holds c (temperature k i) (pressure k i) ≡ true →
+        searchedOn (holds c) k ≡ answered (celsius here)
+    search-in e f =
+        let s = smallest-least (met (holds c) (between (segment k i))) (temperature k (i - 1)) (temperature k i) (warm k ok (i - 1) i (omega arith) h) (starts-unmet e) (ends-met f) in
+        let before : On k (here - 1) i = record { second = l; point = h; from = omega (arith, s .above); to = omega (arith, s .covered) } in
+        let at : On k here i = record { second = l; point = h; from = omega (arith, s .above); to = s .covered } in
+        answers-at (holds c) (pressureAt k) _ _ (holds-grows c) (pressure-rises k ok) here
+        (lt-of-le-of-lt (warm k ok 0 (i - 1) (omega arith) (omega arith)) (s .above))
+        (le-trans (s .covered) (warm k ok i (points k - 1) (omega arith) (omega arith)))
+        (ap (holds c (here - 1)) (on-segment k ok (here - 1) i before) ∙ s .fails (here - 1) (omega (arith, s .above)) (omega (arith, s .above)))
+        (ap (holds c here) (on-segment k ok here i at) ∙ s .passes)

@@ -1,0 +1,58 @@
+-- The tests of refusals 16, 7 and 6 as the code makes them, and what holds where 16 and 7 are not given.
+use mathlib.Core.Path.{_≡_, refl}
+use mathlib.Core.Bool.{Bool, true, false, _||_}
+use Prim.Native.Nat.{ℕ, _≤_, _<_}
+use native.Mathlib.Omega.{arith}
+use lib.Dec.{ltb, eqb}
+use lib.IntN.{ℤ, pos, negsuc, negℤ, natAbs}
+use lib.Signed.{ltZ}
+use borrow.Author.Tests.{lt-ltb, le-ltb, ltb-false}
+use Rattle.refusal.proofs.Tests.{never}
+use Rattle.bonds.specs.declared.Bonds.{Bonds}
+use Rattle.bonds.specs.Kinds.{bondsAt}
+use Rattle.flash.specs.Points.{coefficient, orNothing, unknown, outside, missing}
+use Rattle.flash.specs.Held.{Method}
+use Rattle.flash.proofs.Entries.{blank-zero}
+
+-- an `or` that is false
+neither : (a b : Bool) → (a || b) ≡ false → (a ≡ false) × (b ≡ false)
+neither true b e = never true refl e
+neither false b e = (refl, e)
+
+module _ (last k : ℕ) where
+  pub unknown-below : k < 1 → true ≡ unknown last k
+  unfolding unknown
+  unknown-below l = rw (lt-ltb k 1 l)
+
+  pub unknown-above : 1 ≤ k → ltb last k ≡ unknown last k
+  unfolding unknown
+  unknown-above l = rw (le-ltb k 1 l)
+
+  pub known : unknown last k ≡ false → (1 ≤ k) × (k ≤ last)
+  unfolding unknown
+  known e = let n = neither (ltb k 1) (ltb last k) e in (ltb-false k 1 (n .0), ltb-false last k (n .1))
+
+pub admitted-method : (m : ℕ) → unknown 3 m ≡ false → Method m
+admitted-method m e = let h = known 3 m e in record { from = h .0; to = h .1 }
+
+pub outside-below : (t : ℤ) → ltZ t (negℤ (pos 20000)) ≡ true → true ≡ outside t
+unfolding outside
+outside-below t e = rw e
+
+pub outside-above : (t : ℤ) → ltZ t (negℤ (pos 20000)) ≡ false → ltZ (pos 60000) t ≡ outside t
+unfolding outside
+outside-above t e = rw e
+
+pub inside : (t : ℤ) → outside t ≡ false → natAbs t ≤ 60000
+unfolding outside
+inside (pos n) e = ltb-false 60000 n e
+inside (negsuc n) e = omega (arith, ltb-false 19999 n (neither (ltb 19999 n) false e .0))
+
+module _ (m : ℕ) (b : Bonds) (j : ℕ) where
+  pub missing-no-bond : bondsAt b j ≡ 0 → false ≡ missing m b j
+  unfolding missing
+  missing-no-bond z = rw (le-ltb 0 (bondsAt b j) (omega arith))
+
+  pub missing-bond : 0 < bondsAt b j → (a : ℤ) → a ≡ orNothing (coefficient m j) → eqb (natAbs a) 0 ≡ missing m b j
+  unfolding missing
+  missing-bond l a e = rw (lt-ltb 0 (bondsAt b j) l, e) (blank-zero m j)
