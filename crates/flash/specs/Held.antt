@@ -1,7 +1,5 @@
 -- What the functions below the promises ask: tables that are entered in range, counts and boiling points in theirs.
-use mathlib.Core.Path.{_≡_}
 use Prim.Native.Nat.{ℕ, _≤_}
-use lib.IntN.{ℤ, natAbs}
 use Rattle.bonds.specs.declared.Bonds.{Bonds}
 use Rattle.bonds.specs.Kinds.{bondsAt}
 

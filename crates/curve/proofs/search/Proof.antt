@@ -1,6 +1,6 @@
 -- `search` meets its contract. The invariant: the condition fails at every point passed.
 use mathlib.Core.Path.{_≡_, sym, ap, _∙_}
-use mathlib.Core.Bool.{true, false}
+use mathlib.Core.Bool.{false}
 use Prim.Native.Nat.{ℕ, _-_, _≤_, _<_}
 use native.Mathlib.Nat.{le-trans, le-of-lt}
 use native.Mathlib.Omega.{arith}
@@ -13,11 +13,11 @@ use mir.Val.{SFits}
 use mir.Facts.{toZ-ofZ}
 use Rattle.refusal.specs.Outcome.{answered, shownTemperature}
 use Rattle.curve.specs.Smallest.{celsius, smallest, met}
-use Rattle.curve.specs.Curve.{Curve, curve, points, temperature, pressure, between, segment}
+use Rattle.curve.specs.Curve.{Curve, curve, temperature, pressure, between, segment}
 use Rattle.curve.specs.Held.{holds}
 use Rattle.curve.proofs.Smallest.{is-smallest}
 use Rattle.curve.proofs.Curves.{range, goes-up}
-use Rattle.curve.proofs.Searches.{search-first, search-last, search-in, starts-unmet, ends-met}
+use Rattle.curve.proofs.Searches.{Crossed, search-first, search-last, search-in, starts-unmet, ends-met}
 use Rattle.curve.proofs.search.Statement.{statement}
 use Rattle.curve.proofs.search.Tie as tie
 
@@ -64,14 +64,8 @@ refuse-requires-2 c κs = tt
 segment-at-requires : tie.Need-segment-at-requires Inv-loop μ-loop
 segment-at-requires c κs = (omega arith, omega arith, omega (arith, c .before .before .before .before .before .before .before .before .pre .1 .paired))
 
--- at the first point that passes, which is not the first point: the one before fails
-record Crossed (s : tie.Start Inv-loop μ-loop) (i : ℕ) : Type 0 where
-  second : 1 ≤ i
-  point : i < points (lent s)
-  fails : holds (s .args .c) (temperature (lent s) (i - 1)) (pressure (lent s) (i - 1)) ≡ false
-  passes : holds (s .args .c) (temperature (lent s) i) (pressure (lent s) i) ≡ true
-
-crossed : (c : tie.Else3 Inv-loop μ-loop) → let at = c .before .before .before .before .before .before in Crossed (at .before .before) (at .loop .i)
+-- at the first point that passes, which is not the first point
+crossed : (c : tie.Else3 Inv-loop μ-loop) → let at = c .before .before .before .before .before .before in let s = at .before .before in Crossed (s .args .c) (lent s) (at .loop .i)
 crossed c =
     let m = c .before in
     let at = m .before .before .before .before .before in
@@ -82,8 +76,7 @@ hundredth-requires c κs =
     let at = c .before .before .before .before .before .before .before in
     let s = at .before .before in
     let x = crossed (c .before) in
-    rw (c .segment-at .ensures)
-    (s .pre .0, goes-up (lent s) (s .pre .1) _ (x .second) (x .point), starts-unmet (s .args .c) (lent s) (s .pre .1) _ (x .second) (x .point) (x .fails), ends-met (s .args .c) (lent s) (s .pre .1) _ (x .second) (x .point) (x .passes))
+    rw (c .segment-at .ensures) (s .pre .0, goes-up (lent s) (s .pre .1) _ (x .second) (x .point), starts-unmet (s .args .c) (lent s) (s .pre .1) _ x, ends-met (s .args .c) (lent s) (s .pre .1) _ x)
 
 -- what the search of the segment says of the curve's segment
 hundredth-is : (c : tie.After-hundredth Inv-loop μ-loop) → let at = c .before .before .before .before .before .before .before .before in let s = at .before .before in
@@ -129,10 +122,9 @@ returns-3 c =
     let at = h .before .before .before .before .before .before .before .before in
     let s = at .before .before in
     let fits : SFits w64 (c .celsius .result) = record { sfits = c .celsius .ok } in
-    let x = crossed (h .before .before) in
     let here = toZ-ofZ fits ∙ c .celsius .ensures ∙ ap celsius (hundredth-is h) in
     ap (λ (z : ℤ). shownTemperature (answered z)) here
-    ∙ sym (ap shownTemperature (search-in (s .args .c) (lent s) (s .pre .1) (at .loop .i) (x .second) (x .point) (x .fails) (x .passes)))
+    ∙ sym (ap shownTemperature (search-in (s .args .c) (lent s) (s .pre .1) (at .loop .i) (crossed (h .before .before))))
 
 pub search-spec : {M : Type 1} → statement M
 search-spec =
