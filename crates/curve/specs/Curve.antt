@@ -37,7 +37,7 @@ sizes n m = eqb n m && (leb 2 n && leb n 4096)
 abbrev pub sized : Curve → Bool
 sized c = sizes (length (c .temperatures)) (length (c .pressures))
 
--- temperature −200.00 to 600.00, pressure 1 to 250,000
+-- temperature −200.00 to 600.00, which is 73.00 to 873.00 above −273; pressure 1 to 250,000
 unfoldable pub inRange : ℕ → ℕ → Bool
 inRange t p = (leb 7300 t && leb t 87300) && (leb 1 p && leb p 250000)
 

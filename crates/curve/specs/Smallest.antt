@@ -2,9 +2,8 @@
 use mathlib.Core.Path.{_≡_}
 use mathlib.Core.Bool.{Bool, true, false, not}
 use mathlib.Core.Option.{Option·getD}
-use Prim.Native.Nat.{ℕ, _-_, _≤_, _<_}
+use Prim.Native.Nat.{ℕ, suc, _+_, _-_, _≤_, _<_}
 use lib.IntN.{ℤ, pos, negsuc, subℕ}
-use Prim.Native.Nat.{suc, _+_}
 use Rattle.refusal.specs.Numbers.{trueAtFirst, falseAtLast}
 use Rattle.refusal.specs.Lowest.{lowest}
 use Rattle.refusal.specs.Outcome.{Outcome, answered, refuse}
