@@ -13,6 +13,7 @@ use borrow.Author.Tests.{le-ltb, ltb-false, eq-eqb}
 use Rattle.refusal.specs.Numbers.{noFormula, countTooLarge, noRoom}
 use Rattle.refusal.specs.Lowest.{isNone}
 use Rattle.refusal.specs.Outcome.{Outcome, answered, refuse, refuseAt}
+use Rattle.text.specs.Writing.{placed, holding}
 use Rattle.text.proofs.Rooms.{put-fits}
 use Rattle.formula.specs.declared.Element.{Element}
 use Rattle.formula.specs.declared.Atoms.{Atoms}
@@ -20,7 +21,7 @@ use Rattle.formula.specs.Elements.{elements, number, count, atoms, each,
 use Rattle.formula.specs.Grammar.{Count, unwritten, written, value, Formula, last, next, Item, element, group, totals, itemTotals}
 use Rattle.formula.specs.Hill.{hillText}
 use Rattle.formula.specs.Reading.{reading, Outcomes, counted}
-use Rattle.formula.specs.Writing.{writing, holding, roomAfter}
+use Rattle.formula.specs.Writing.{writing, roomAfter}
 use Rattle.formula.specs.RoundTrip.{Writable, RoundTrip}
 use Rattle.formula.proofs.Elements.{numbered, count-atoms}
 use Rattle.formula.proofs.Above.{above-none, no-above, is-above, some-above}
@@ -60,7 +61,7 @@ room-starts a room t e l =
     ∙ take-append-seam t (drop (0 + length t) room)
 
 written-back : (a : Atoms) (room t : List ℕ) → length (a .count) ≡ 10 → writing a (length room) ≡ answered t → reading (take (length t) (roomAfter a room)) ≡ answered a
-unfolding writing
+unfolding writing placed
 written-back a room t ten e =
     let h = hillText a in
     let k = passed (isNone (firstAbove (each 0) a)) (firstAbove (each 200) a) (ltb (length room) (length h)) h t e in
@@ -87,7 +88,7 @@ read-writable t a (counted s f is k) =
     record { ten = refl; most = λ x. omega (arith, k x, count-atoms (totals f) x); some = (e .0, omega (arith, e .1, count-atoms (totals f) (e .0))) }
 
 writable-written : (a : Atoms) (n : ℕ) → Writable a → length (hillText a) ≤ n → writing a n ≡ answered (hillText a)
-unfolding writing
+unfolding writing placed
 writable-written a n w l = rw (is-above 0 a (w .some .0) (w .some .1), no-above 200 a (w .most), le-ltb n (length (hillText a)) l)
 
 pub round-trip : RoundTrip

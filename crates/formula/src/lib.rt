@@ -37,13 +37,6 @@ pub struct FormulaRead {
     pub atoms: Atoms,
 }
 
-// The length of a formula that was written, or a refusal and 0.
-#[repr(C)]
-pub struct FormulaWritten {
-    pub refusal: Refusal,
-    pub length: u64,
-}
-
 pub fn number_of(e: Element) -> u64
     ensures { λ r. ⌜ r ≡ number e ⌝ }
 {

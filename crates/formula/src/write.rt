@@ -4,21 +4,23 @@ ghost use Prim.Native.Nat.{_+_, _≤_, _<_};
 ghost use lib.ListN.{length, take, getD};
 ghost use Rattle.refusal.specs.Outcome.{refused, refusal};
 ghost use Rattle.text.specs.Room.{putAt, behind};
+ghost use Rattle.text.specs.Writing.{shownLength};
 ghost use Rattle.formula.specs.declared.Element.the-variants.{Carbon};
 ghost use Rattle.formula.specs.Held.{AtMost200};
 ghost use Rattle.formula.specs.Hill.{hillOrder, hillItem, hillText};
 ghost use Rattle.formula.specs.Elements.{symbol};
-ghost use Rattle.formula.specs.Writing.{shownLength, formulaWritten, roomAfter};
+ghost use Rattle.formula.specs.Writing.{formulaWritten, roomAfter};
 ghost use Rattle.formula.specs.RoundTrip.{RoundTrip};
 use crate::Atoms;
 use crate::Element;
-use crate::FormulaWritten;
 use crate::count_of;
 use crate::each;
 use crate::first_above;
 use refusal::Refusal;
+use text::Written;
 use text::put;
 use text::put_decimal;
+use text::write_whole;
 
 const BY_SYMBOL: [Element; 10] = [
     Element::Bromine,
@@ -144,10 +146,10 @@ fn hill_line(atoms: Atoms) -> Line
     Line { bytes, length: at }
 }
 
-fn refuse(number: u64, place: u64) -> FormulaWritten
+fn refuse(number: u64, place: u64) -> Written
     ensures { λ r. ⌜ r ≡ shownLength (refused (refusal number place)) ⌝ }
 {
-    FormulaWritten {
+    Written {
         refusal: Refusal { number, place },
         length: 0,
     }
@@ -155,7 +157,7 @@ fn refuse(number: u64, place: u64) -> FormulaWritten
 
 // Writes atom counts in Hill order at the start of out, and answers the text's length; the bytes behind it stay. Refusals 1 where all counts are 0,
 // 2 with the lowest element above 200, and 17 where out is too short; they leave all of out as it was.
-pub fn write_formula(atoms: Atoms, out: &mut [u8]) -> FormulaWritten
+pub fn write_formula(atoms: Atoms, out: &mut [u8]) -> Written
     ensures { λ r. ⌜ r ≡ formulaWritten atoms (now (out .entry)) ⌝ }
     ensures room { λ r. ⌜ now (out .exit) ≡ roomAfter atoms (now (out .entry)) ⌝ }
     ensures round_trip { λ _. ⌜ RoundTrip ⌝ }
@@ -170,15 +172,5 @@ pub fn write_formula(atoms: Atoms, out: &mut [u8]) -> FormulaWritten
     let line = hill_line(atoms);
     let bytes = line.bytes;
     let length = line.length;
-    if out.len() < length {
-        return refuse(refusal::NO_ROOM, 0);
-    }
-    put(out, 0, &bytes[..length]);
-    FormulaWritten {
-        refusal: Refusal {
-            number: 0,
-            place: 0,
-        },
-        length: length as u64,
-    }
+    write_whole(out, &bytes[..length])
 }

@@ -19,8 +19,8 @@ use blend::Blended;
 use blend::Limits;
 use formula::Atoms;
 use formula::FormulaRead;
-use formula::FormulaWritten;
 use refusal::Figure;
+use text::Written;
 
 #[no_mangle]
 pub extern "C" fn jlw_read_formula(text: &[u8]) -> FormulaRead
@@ -43,7 +43,7 @@ pub extern "C" fn jlw_write_formula(
     br: u64,
     si: u64,
     out: &mut [u8],
-) -> FormulaWritten
+) -> Written
     ensures { λ r. ⌜ r ≡ formulaWritten (record { count = c ∷ h ∷ o ∷ n ∷ s ∷ p ∷ f ∷ cl ∷ br ∷ si ∷ [] }) (now (out .entry)) ⌝ }
     ensures room { λ r. ⌜ now (out .exit) ≡ roomAfter (record { count = c ∷ h ∷ o ∷ n ∷ s ∷ p ∷ f ∷ cl ∷ br ∷ si ∷ [] }) (now (out .entry)) ⌝ }
     ensures round_trip { λ _. ⌜ RoundTrip ⌝ }

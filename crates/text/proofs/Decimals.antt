@@ -7,7 +7,7 @@ use native.Mathlib.Nat.{pow-suc, div-lt-iff-lt-mul}
 use native.Mathlib.Numerals.{add-one}
 use native.Mathlib.Decide.{decLt}
 use native.Mathlib.Omega.{arith}
-use lib.ListN.{length, take, drop, set, length-set, drop-of-length-le}
+use lib.ListN.{length, take, drop, set, length-set, length-append, drop-of-length-le}
 use lib.Seq.{set-split, drop-at, length-take-le}
 use lib.Dec.{leb, ltb}
 use borrow.Author.Tests.{lt-ltb, le-ltb, ltb-false, le-leb, lt-leb, leb-true}
@@ -102,6 +102,18 @@ decimal-short n l = go (decLt n 10) (decLt n 100)
     go (yes p) d = rw (decimal-one n p) (omega arith)
     go (no p) (yes q) = rw (decimal-two n (omega arith) q) (omega arith)
     go (no p) (no q) = rw (decimal-three n (omega arith) l) (omega arith)
+
+-- a number below 10 to the k has at most k digits
+pub decimal-length : (k n : ℕ) → n < 10 ^ suc k → length (decimal n) ≤ suc k
+decimal-length zero n l = rw (decimal-one n l) (omega arith)
+decimal-length (suc k) n l = go (decLt n 10) (decimal-length k (n / 10))
+  where
+    go : Dec (n < 10) → (n / 10 < 10 ^ suc k → length (decimal (n / 10)) ≤ suc k) → length (decimal n) ≤ suc (suc k)
+    go (yes h) f = rw (decimal-one n h) (omega arith)
+    go (no h) f =
+        let ten : 0 < 10 = omega arith in
+        let shorter = f (div-lt-iff-lt-mul ten .1 (omega (arith, pow-suc 10 (suc k)))) in
+        rw (decimal-more n (omega arith)) (omega (arith, length-append (decimal (n / 10)) ((48 + n % 10) ∷ [])))
 
 -- BYTES OF DIGITS, as a test and as facts
 pub digit-in : (from b : ℕ) → from ≤ b → b ≤ 57 → digitFrom from b ≡ true

@@ -3,12 +3,12 @@ use mathlib.Core.Path.{_≡_, refl, sym, ap, ap₂, _∙_}
 use mathlib.Core.List.{List, [], _++_, append-assoc}
 use Prim.Native.Nat.{ℕ, _+_, _≤_, _<_}
 use native.Mathlib.Decide.{decLe}
-use native.Mathlib.Nat.{add-zero}
+use native.Mathlib.Nat.{add-zero, zero-add}
 use native.Mathlib.Numerals.{add-one}
 use native.Mathlib.Omega.{arith}
 use borrow.Author.Tests.{le-leb, lt-leb}
 use lib.ListN.{length, take, drop, set, getD, length-append, length-drop, take-append-drop}
-use lib.Seq.{take-length, take-at, length-take-le, drop-append-add, drop-drop, paste, paste-suc}
+use lib.Seq.{take-length, take-append-seam, take-at, length-take-le, drop-append-add, drop-drop, paste, paste-suc}
 use Rattle.text.specs.Room.{putAt, behind}
 
 module _ (room : List ℕ) (at : ℕ) (s : List ℕ) where
@@ -89,3 +89,37 @@ holds-more {size} {t} {out} {n} s h l =
           ∙ take-at (take n out ++ s) (drop (n + length s) out) (n + length s) (omega (arith, length-append (take n out) s))
           ∙ ap (λ (w : List ℕ). w ++ s) (h .starts);
     })
+
+-- PIECES. s put into a room at a place: r is the place behind it, and out the room with it.
+pub record Puts (room : List ℕ) (at : ℕ) (s out : List ℕ) (r : ℕ) : Type 0 where
+  pub ends : r ≡ at + length s
+  pub gives : out ≡ putAt room at s
+
+-- what holds a whole holds its first piece
+pub first-fits : (at n : ℕ) (s t : List ℕ) → at + length (s ++ t) ≤ n → at + length s ≤ n
+first-fits at n s t l = omega (arith, length-append s t)
+
+pub puts-one : {room : List ℕ} {at : ℕ} {s out : List ℕ} {r : ℕ} → at + length s ≤ length room → r ≡ behind room at s → out ≡ putAt room at s → Puts room at s out r
+puts-one {room} {at} {s} l e f = record { ends = e ∙ behind-fits room at s l; gives = f }
+
+-- a piece behind another
+module _ {room : List ℕ} {at : ℕ} {s mid : List ℕ} {k : ℕ} (h : Puts room at s mid k) (t : List ℕ) (l : at + length (s ++ t) ≤ length room) where
+  pub puts-room : k + length t ≤ length mid
+  puts-room = omega (arith, length-append s t, h .ends, ap length (h .gives), put-length room at s)
+
+  pub puts-then : {out : List ℕ} {r : ℕ} → Puts mid k t out r → Puts room at (s ++ t) out r
+  puts-then g = record {
+    ends = omega (arith, length-append s t, h .ends, g .ends);
+    gives = g .gives ∙ rw (h .gives, h .ends) (put-twice room at s t (omega (arith, length-append s t)));
+  }
+
+  pub puts-next : {out : List ℕ} {r : ℕ} → r ≡ behind mid k t → out ≡ putAt mid k t → Puts room at (s ++ t) out r
+  puts-next e f = puts-then (puts-one puts-room e f)
+
+-- a text put at the start of a room is its first bytes
+pub puts-starts : {room s out : List ℕ} {r : ℕ} → length s ≤ length room → Puts room 0 s out r → (length out ≡ length room) × (r ≤ length room) × (take r out ≡ s)
+puts-starts {room} {s} l h = (
+  ap length (h .gives) ∙ put-length room 0 s,
+  omega (arith, h .ends),
+  rw (h .ends, h .gives, put-fits room 0 s (omega arith)) (rw (zero-add (length s)) (take-append-seam s (drop (length s) room))),
+)

@@ -1,9 +1,24 @@
-// Bytes of text: reading one, and putting text and numbers into a lent buffer.
+// Bytes of text: reading one, the lines and fields of a text, and putting text and numbers into a lent buffer.
 ghost use mathlib.Core.Path.{_≡_};
 ghost use Prim.Native.Nat.{_+_, _≤_};
 ghost use lib.ListN.{length, getD, drop};
 ghost use Rattle.text.specs.Decimal.{decimal, digitFrom};
 ghost use Rattle.text.specs.Room.{putAt, behind};
+ghost use Rattle.text.specs.Writing.{placed, shownLength, holding};
+use refusal::Refusal;
+
+mod csv;
+
+pub use csv::field_length;
+pub use csv::is_plain_line;
+pub use csv::line_length;
+
+// The length of a text that was written, or a refusal and 0.
+#[repr(C)]
+pub struct Written {
+    pub refusal: Refusal,
+    pub length: u64,
+}
 
 // The byte at a position, 0 at the end and past it.
 pub fn byte_at(s: &[u8], at: usize) -> u8
@@ -47,6 +62,30 @@ pub fn put(out: &mut [u8], at: usize, s: &[u8]) -> usize
     }
     copy(out, at, s);
     at + s.len()
+}
+
+// Writes s whole at the start of out, and answers its length; the bytes behind it stay. Refusal 17 where out is too short, which leaves all of out as it was.
+pub fn write_whole(out: &mut [u8], s: &[u8]) -> Written
+    ensures { λ r. ⌜ r ≡ shownLength (placed (length (now (out .entry))) (now (s .entry))) ⌝ }
+    ensures room { λ r. ⌜ now (out .exit) ≡ holding (now (out .entry)) (placed (length (now (out .entry))) (now (s .entry))) ⌝ }
+{
+    if out.len() < s.len() {
+        return Written {
+            refusal: Refusal {
+                number: refusal::NO_ROOM,
+                place: 0,
+            },
+            length: 0,
+        };
+    }
+    copy(out, 0, s);
+    Written {
+        refusal: Refusal {
+            number: 0,
+            place: 0,
+        },
+        length: s.len() as u64,
+    }
 }
 
 // A number's decimal digits, at the end of the array from a position on.

@@ -1,16 +1,12 @@
 -- `write_formula` meets its contract: one law for each answer.
 use borrow.Author.Needs.{needs}
-use mathlib.Core.Path.{_≡_, sym, ap, _∙_}
-use Prim.Native.Nat.{ℕ}
+use mathlib.Core.Path.{_≡_, ap, _∙_}
 use native.Mathlib.Omega.{arith}
-use lib.ListN.{length, length-take}
-use lib.Seq.{length-take-le}
+use lib.ListN.{length-take}
 use Rattle.refusal.specs.Lowest.{orZero}
-use Rattle.text.specs.Room.{putAt}
 use Rattle.formula.specs.declared.Atoms.{Atoms}
 use Rattle.formula.specs.Elements.{each, firstAbove}
-use Rattle.formula.specs.Hill.{hillText}
-use Rattle.formula.proofs.Written.{at-most-200, written-none, written-large, written-short, written-all}
+use Rattle.formula.proofs.Written.{at-most-200, written-none, written-large, written-whole}
 use Rattle.formula.proofs.write.write_formula.Statement.{statement}
 use Rattle.formula.proofs.write.write_formula.Tie as tie
 
@@ -20,10 +16,6 @@ any c = c .first-above .ensures ∙ ap (λ (b : Atoms). orZero (firstAbove b (c 
 
 over : (c : tie.After-first-above2) → c .first-above2 .result ≡ orZero (firstAbove (each 200) (c .before .before .before .before .before .before .args .atoms))
 over c = c .first-above2 .ensures ∙ ap (λ (b : Atoms). orZero (firstAbove b (c .before .before .before .before .before .before .args .atoms))) (c .before .each2 .ensures)
-
--- the length of the line is the text's
-size : (c : tie.After-hill-line) → c .hill-line .result .length ≡ length (hillText (c .before .before .before .before .before .before .before .before .args .atoms))
-size c = let l = c .hill-line .ensures in sym (length-take-le _ _ (omega (arith, l .0, l .1))) ∙ ap length (l .2)
 
 each-requires : tie.Need-each-requires
 each-requires c κs = search needs
@@ -60,40 +52,28 @@ returns-2 c =
 hill-line-requires : tie.Need-hill-line-requires
 hill-line-requires c κs = at-most-200 _ _ (over (c .before)) (omega arith)
 
-refuse-requires-3 : tie.Need-refuse-requires-3
-refuse-requires-3 c κs = search needs
-
-returns-3 : tie.Need-returns-3
-returns-3 c =
-    let h = c .before .before .before in
-    let g = h .before .before in
-    let f = g .before .before .before in
-    let a = f .before .before .before .args in
-    written-short (a .atoms) (a .out .now) (c .refuse3 .result) (f .first-above .result) (any f) (g .before .before .if1 .left)
-    (g .first-above2 .result) (over g) (omega arith) (omega (arith, size h)) (c .refuse3 .ensures)
-
 array-share-prefix-bytes : tie.Need-array-share-prefix-bytes
 array-share-prefix-bytes c = search needs
 
-slice-aggregate-put : tie.Need-slice-aggregate-put
-slice-aggregate-put c = simp length-take (omega (arith, c .before .before .before .before .hill-line .ensures))
+slice-aggregate-write-whole : tie.Need-slice-aggregate-write-whole
+slice-aggregate-write-whole c = simp length-take (omega (arith, c .before .before .before .hill-line .ensures))
 
-put-requires : tie.Need-put-requires
-put-requires c κs = search needs
+write-whole-requires : tie.Need-write-whole-requires
+write-whole-requires c κs = search needs
 
 same-length : tie.Need-same-length
 same-length c = search needs
 
-returns-4 : tie.Need-returns-4
-returns-4 c =
-    let p = c .before .before in
-    let h = p .before .before .before .before .before in
+returns-3 : tie.Need-returns-3
+returns-3 c =
+    let w = c .before .before in
+    let h = w .before .before .before .before in
     let g = h .before .before in
     let f = g .before .before .before in
     let a = f .before .before .before .args in
-    written-all (a .atoms) (a .out .now) _ (f .first-above .result) (any f) (g .before .before .if1 .left)
-    (g .first-above2 .result) (over g) (omega arith) (omega (arith, size h)) _ (ap (λ (n : ℕ). record { refusal = record { number = 0; place = 0 }; length = n }) (size h))
-    (p .put .ensures .1 ∙ ap (putAt (a .out .now) 0) (h .hill-line .ensures .2))
+    let done = rw (h .hill-line .ensures .2) at (w .write-whole .ensures) in
+    written-whole (a .atoms) (a .out .now) _ (f .first-above .result) (any f) (g .before .before .if1 .left)
+    (g .first-above2 .result) (over g) (omega arith) _ (done .0) (done .1)
 
 pub write-formula-spec : {M : Type 1} → statement M
 write-formula-spec =
@@ -108,10 +88,8 @@ write-formula-spec =
     refuse-requires-2
     returns-2
     hill-line-requires
-    refuse-requires-3
-    returns-3
     array-share-prefix-bytes
-    slice-aggregate-put
-    put-requires
+    slice-aggregate-write-whole
+    write-whole-requires
     same-length
-    returns-4)
+    returns-3)

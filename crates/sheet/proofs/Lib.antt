@@ -1,0 +1,4 @@
+pub mod Parts
+pub mod Records
+pub mod Modelled
+pub mod Lengths

@@ -1,0 +1,50 @@
+-- A sheet's answer is the reference model's.
+use mathlib.Core.Path.{_≡_, refl, ap, _∙_}
+use mathlib.Core.Bool.{not}
+use mathlib.Core.List.{List, [], _∷_}
+use mathlib.Core.Option.{Option, some, none}
+use Prim.Native.Nat.{ℕ, suc}
+use Rattle.refusal.specs.declared.Refusal.{Refusal}
+use Rattle.refusal.specs.Numbers.{badSheet}
+use Rattle.refusal.specs.Outcome.{Outcome, refused, answered, refuse, refuseAt, valueOf, andThen}
+use Rattle.text.specs.Sheet.{headed, records, firstBad}
+use Rattle.blend.specs.declared.Blend.{Blend}
+use Rattle.blend.specs.Fuel.{text}
+use Rattle.blend.specs.Calls.{changed, put, next, answers, answerTo, after}
+use Rattle.blend.specs.Blend.{Both, emptyBlend, adding, asking}
+use Rattle.blend.specs.Claims.{keeper, blends, blendAnswers}
+use Rattle.blend.proofs.Theorem.{claims}
+use Rattle.sheet.specs.Mixture.{header, goodMixture, formulaOf, partsOf, atRecord, addingAll, sheetAnswer}
+use Rattle.sheet.specs.ByModel.{addings, firstRefusal, unlessRefused, ByModel}
+
+put-here : (states : ℕ → Blend) (c : Blend) → put states 0 c 0 ≡ c
+unfolding put
+put-here states c = refl
+
+-- the records added one by one are the list of addings, from any blends
+all-added : (states : ℕ → Blend) (k : ℕ) (ls : List (List ℕ))
+    → addingAll (states 0) k ls ≡ unlessRefused (firstRefusal k (answers keeper states (addings ls))) (answered (after keeper states (addings ls) 0))
+unfolding addingAll firstRefusal answers after answerTo next
+all-added states k [] = refl
+all-added states k (l ∷ ls) = go (adding (states 0) (text (formulaOf l)) (partsOf l)) (λ c. all-added (put states 0 c) (suc k) ls)
+  where
+    go : (o : Outcome Blend)
+        → ((c : Blend) → addingAll (put states 0 c 0) (suc k) ls ≡ unlessRefused (firstRefusal (suc k) (answers keeper (put states 0 c) (addings ls))) (answered (after keeper (put states 0 c) (addings ls) 0)))
+        → andThen (atRecord k o) (λ c. addingAll c (suc k) ls)
+        ≡ unlessRefused (firstRefusal k (changed o ∷ answers keeper (put states 0 (valueOf (states 0) o)) (addings ls))) (answered (after keeper (put states 0 (valueOf (states 0) o)) (addings ls) 0))
+    go (refused r) later = refl
+    go (answered c) later = rw (put-here states c) at (later c)
+
+unless-then : {A B : Type 0} (o : Option Refusal) (a : A) (f : A → Outcome B) → andThen (unlessRefused o (answered a)) f ≡ unlessRefused o (f a)
+unless-then (some r) a f = refl
+unless-then none a f = refl
+
+pub by-model : (s : List ℕ) → ByModel s
+unfolding sheetAnswer
+by-model s =
+    let cs = addings (records s) in
+    let c = claims cs in
+    ap (λ (o : Outcome Both). refuse badSheet 0 (not (headed header s)) (refuseAt badSheet (firstBad goodMixture 1 (records s)) o))
+    (ap (λ (o : Outcome Blend). andThen o (λ b. asking b none)) (all-added (λ i. emptyBlend) 1 (records s))
+    ∙ unless-then (firstRefusal 1 (blendAnswers cs)) (blends cs 0) (λ b. asking b none)
+    ∙ rw (c .answered, c .by-le-chatelier 0 none))

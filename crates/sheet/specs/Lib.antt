@@ -1,0 +1,3 @@
+pub mod Mixture
+pub mod ByModel
+pub mod Answer
