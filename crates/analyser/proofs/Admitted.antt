@@ -17,8 +17,8 @@ use Rattle.rounding.proofs.Fractions.{Is, is-over, is-whole, is-times, at-most-
 use Rattle.analyser.specs.declared.Method.{Method}
 use Rattle.analyser.specs.declared.Reading.{Reading}
 use Rattle.analyser.specs.declared.Reading.the-variants.{Percent, Ppm, Overload}
-use Rattle.analyser.proofs.Answers.{bad-method, bad-reading, good-reading, overload-good, overload-bad}
 use Rattle.analyser.specs.Reading.{isAmount, amount, upTo, goodMethod, converted, measured, overloaded, partsOf}
+use Rattle.analyser.proofs.Answers.{bad-method, bad-reading, good-reading, overload-good, overload-bad}
 
 -- WHAT IS ADMITTED
 truly : (b : Bool) → b ≡ true → T b

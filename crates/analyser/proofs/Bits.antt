@@ -86,7 +86,7 @@ no-nan (fin s m e) p = tt
 pub record Shifted (f t factor twos : ℕ) (exact : ℕ) : Type 0 where
   pub under : f + twos < 1043
   pub product : (t + 2 ^ 52) * factor < 2 ^ 63
-  pub is : roundDiv ((t + 2 ^ 52) * factor) (1 * 2 ^ (1075 - f - twos) % 2 ^ 64) ≡ exact
+  pub is : (p k : ℕ) → p ≡ (t + 2 ^ 52) * factor → k ≡ 1075 - f - twos → roundDiv p (1 * 2 ^ k % 2 ^ 64) ≡ exact
 
 module _ (x : Float) (factor twos : ℕ) (held : T (fits binary64 x)) (pre : Scaled x factor twos) where
   abbrev f : ℕ
@@ -150,7 +150,7 @@ module _ (x : Float) (factor twos : ℕ) (held : T (fits binary64 x)) (pre : Sca
     facts = record {
       under = under;
       product = subst (λ (z : ℕ). z * factor < 2 ^ 63) lead n-lt;
-      is =
-          rw (shl-exact 1 s 64 (lit< tt) (omega arith), one-mul (2 ^ s))
+      is = λ (p k : ℕ) (product : p ≡ (t + 2 ^ 52) * factor) (shift : k ≡ s).
+          rw (product, shift, shl-exact 1 s 64 (lit< tt) (omega arith), one-mul (2 ^ s))
           (ap (λ (z : ℕ). roundDiv (z * factor) (2 ^ s)) (sym lead) ∙ sym shifted);
     }

@@ -28,6 +28,9 @@ unfoldable pub upTo : Float → Fraction → Bool
 upTo x f = isAmount x && atMost (amount x) f
 
 -- METHODS AND READINGS
+abbrev pub methodOf : Float → Float → Method
+methodOf limit ceiling = record { limit = limit; ceiling = ceiling }
+
 -- 0 ≤ limit ≤ ceiling ≤ top
 unfoldable pub goodMethod : Fraction → Method → Bool
 goodMethod top m = upTo (m .ceiling) top && upTo (m .limit) (amount (m .ceiling))

@@ -2,7 +2,7 @@
 ghost use mathlib.Core.Path.{_≡_};
 ghost use Prim.Native.Nat.{_*_, _^_, _≤_};
 ghost use lib.Dec.{T};
-ghost use Rattle.refusal.specs.Outcome.{refused, answered, refusal, shownFigure};
+ghost use Rattle.refusal.specs.Outcome.{refused, refusal, shownFigure};
 ghost use Rattle.refusal.specs.Numbers.{badReading};
 ghost use Rattle.rounding.specs.Fraction.{figure, whole, _⊠_};
 ghost use Rattle.analyser.specs.Reading.{isAmount, amount, upTo, goodMethod, converted, measured, overloaded, partsOf};
@@ -72,18 +72,6 @@ fn to_parts(method: Method, x: f64, factor: u64, twos: u64) -> u64
     0
 }
 
-fn answer(value: u64) -> Figure
-    ensures { λ r. ⌜ r ≡ shownFigure (answered value) ⌝ }
-{
-    Figure {
-        refusal: Refusal {
-            number: 0,
-            place: 0,
-        },
-        value,
-    }
-}
-
 // Refusal 14: place 0 for the method, 1 for the reading.
 fn refuse(place: u64) -> Figure
     ensures { λ r. ⌜ r ≡ shownFigure (refused (refusal badReading place)) ⌝ }
@@ -108,7 +96,13 @@ fn measure(method: Method, x: f64, top: f64, factor: u64, twos: u64) -> Figure
     if !is_up_to(x, method.ceiling) {
         return refuse(1);
     }
-    answer(to_parts(method, x, factor, twos))
+    Figure {
+        refusal: Refusal {
+            number: 0,
+            place: 0,
+        },
+        value: to_parts(method, x, factor, twos),
+    }
 }
 
 // The answer to an overload, whose method is in parts per million.

@@ -51,13 +51,8 @@ to-parts-requires c κs =
       },
     )
 
-answer-requires : tie.Need-answer-requires
-answer-requires c κs = search needs
-
 returns-3 : tie.Need-returns-3
-returns-3 c =
-    let e = c .before .before in
-    c .answer .ensures ∙ ap shownFigure (good-reading _ _ _ _ (good-is (e .before .before)) (up-to-is e) _ (c .before .to-parts .ensures))
+returns-3 c = ap shownFigure (good-reading _ _ _ _ (good-is (c .before .before .before)) (up-to-is (c .before)) _ (c .to-parts .ensures))
 
 pub measure-spec : {M : Type 1} → statement M
 measure-spec =
@@ -70,5 +65,4 @@ measure-spec =
     refuse-requires-2
     returns-2
     to-parts-requires
-    answer-requires
     returns-3)

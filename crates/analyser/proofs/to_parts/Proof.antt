@@ -2,6 +2,7 @@
 use mathlib.Core.Path.{_≡_, sym, _∙_}
 use mathlib.Core.Bool.{true, false}
 use lib.Ieee.{le}
+use borrow.Author.Needs.{needs}
 use Rattle.rounding.specs.Fraction.{atMost}
 use Rattle.analyser.specs.Reading.{amount}
 use Rattle.analyser.proofs.Order.{le-is}
@@ -13,7 +14,7 @@ limit-test : (c : tie.Start) → atMost (amount (c .args .method .limit)) (amoun
 limit-test c = sym (le-is _ _ (c .pre .0) (c .pre .1 .is-amount))
 
 whole-parts-requires : tie.Need-whole-parts-requires
-whole-parts-requires c κs = c .before .before .pre .1
+whole-parts-requires c κs = search needs
 
 returns : tie.Need-returns
 returns c = c .whole-parts .ensures ∙ converted-by true _ _ _ (limit-test (c .before .before .before) ∙ c .before .if1 .taken)

@@ -47,7 +47,7 @@ round-div-requires : tie.Need-round-div-requires
 round-div-requires c κs = search needs
 
 returns-2 : tie.Need-returns-2
-returns-2 c = c .round-div .ensures .0 ∙ known (c .before) .is
+returns-2 c = c .round-div .ensures .0 ∙ known (c .before) .is _ _ (omega arith) (omega arith)
 
 pub whole-parts-spec : {M : Type 1} → statement M
 whole-parts-spec =
