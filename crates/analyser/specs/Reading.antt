@@ -28,6 +28,7 @@ unfoldable pub upTo : Float → Fraction → Bool
 upTo x f = isAmount x && atMost (amount x) f
 
 -- METHODS AND READINGS
+-- a method by its detection limit and its ceiling
 abbrev pub methodOf : Float → Float → Method
 methodOf limit ceiling = record { limit = limit; ceiling = ceiling }
 
