@@ -26,6 +26,28 @@ jlt_temperature jlt_flash_by_curve(uint64_t method, jlw_atoms fuel, uint64_t dif
 /* Refusals 2, 3, 4, 11, 12, 13. */
 jlt_temperature jlt_lower_temperature_limit(jlw_atoms fuel, const int64_t *t, size_t t_len, const uint64_t *p, size_t p_len);
 
+/* The whole parts per million of an analyser's reading; detection limit and ceiling in the reading's unit, for an overload in parts per million.
+   Refusal 14: place 0 for the method, 1 for the reading. */
+jlw_figure jlt_parts_of_percent(double limit, double ceiling, double reading);
+jlw_figure jlt_parts_of_ppm(double limit, double ceiling, double reading);
+jlw_figure jlt_parts_of_overload(double limit, double ceiling);
+
+/* Adds whole parts of a fuel given by its atom counts. Refusals 28, 2, 3, 4, 8. */
+jlw_blended jlt_add_fuel(jlw_blend blend, jlw_atoms fuel, uint64_t parts);
+
+/* Both limits of a fuel given by its atom counts, in 0.01 volume percent. Refusals 2, 3, 4, 10. */
+jlw_limits jlt_fuel_limits_at(jlw_atoms fuel, int64_t temperature);
+
+/* The oxygen coefficient in quarters, of atom counts. Refusals 2, 3, 4. */
+jlw_figure jlt_oxygen_coefficient(jlw_atoms fuel);
+
+/* Both limits of the mixture that a sheet lists, with no temperature named. Refusals 15 (place: record, 0 for the header or a longer sheet), then 1, 2, 3, 4, 8
+   with the record as their place, then 9. */
+jlw_limits jlt_sheet_answer(const uint8_t *sheet, size_t sheet_len);
+
+/* A sheet's answer as text: two lines, CRLF after each. The text's length, at most 76; bytes behind it stay. Refusal 17 where out is too short, and all of it stays. */
+jlw_written jlt_write_sheet_answer(jlw_refusal refusal, uint64_t lower, uint64_t upper, uint8_t *out, size_t out_len);
+
 #ifdef __cplusplus
 }
 #endif

@@ -11,6 +11,8 @@ use libc::STDOUT_FILENO;
 use refusal::Refusal;
 use refusal::Temperature;
 
+mod readings;
+
 // The number of worked examples. Each has the answer that is printed for it.
 fn worked_examples() -> u64
     ensures { λ r. ⌜ r ≡ length worked ⌝ }
@@ -380,4 +382,5 @@ fn main() {
     blends();
     flash_points();
     curves();
+    readings::show_readings();
 }

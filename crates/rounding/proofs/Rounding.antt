@@ -34,6 +34,10 @@ pub nearest-is : (n d r : ℕ) → Nearest n d r → r ≡ roundDiv n d
 unfolding roundDiv
 nearest-is n d r t = sym (div-eq-of-lt-le (2 * d) (omega arith) (omega arith))
 
+-- below a half it is 0
+pub round-none : (n d : ℕ) → 2 * n < d → 0 ≡ roundDiv n d
+round-none n d h = nearest-is n d 0 (record { low = omega arith; high = omega arith })
+
 pub round-by-zero : (n : ℕ) → roundDiv n 0 ≡ 0
 unfolding roundDiv
 round-by-zero n = div-zero (2 * n + 0)

@@ -11,6 +11,10 @@ use Rattle.text.specs.Decimal.{decimal}
 use Rattle.text.specs.Writing.{placed, shownLength, holding}
 use Rattle.blend.specs.declared.Limits.{Limits}
 
+-- an answer by its numbers
+abbrev pub answerOf : Refusal → ℕ → ℕ → Limits
+answerOf r lower upper = record { refusal = r; lower = lower; upper = upper }
+
 abbrev pub lineEnd : List ℕ
 lineEnd = 13 ∷ 10 ∷ []
 

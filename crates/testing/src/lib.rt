@@ -1,12 +1,31 @@
 // The functions that tests call from outside, tests/testing.h: each with the promise of the function that it calls.
 ghost use mathlib.Core.Path.{_≡_};
-ghost use Rattle.refusal.specs.Outcome.{shownTemperature};
+ghost use mathlib.Core.Option.{some};
+ghost use Prim.Native.Nat.{_≤_};
+ghost use Rattle.refusal.specs.Outcome.{shownFigure, shownTemperature};
+ghost use Rattle.oxygen.specs.Admission.{oxygenCoefficient};
+ghost use Rattle.blend.specs.Fuel.{counts};
+ghost use Rattle.blend.specs.Blend.{adding, shownBlend, shownLimits};
+ghost use Rattle.limits.specs.FuelLimits.{fuelLimits, AsBlend};
 ghost use Rattle.flash.specs.Points.{byBonds, byClass};
 ghost use Rattle.curve.specs.Curve.{curve, Sound};
 ghost use Rattle.curve.specs.Questions.{lowerTemperatureLimit, flashByCurve};
+ghost use Rattle.analyser.specs.declared.Reading.the-variants.{Percent, Ppm, Overload};
+ghost use Rattle.analyser.specs.Reading.{methodOf, partsOf};
+ghost use Rattle.sheet.specs.Mixture.{sheetAnswer};
+ghost use Rattle.sheet.specs.ByModel.{ByModel};
+ghost use Rattle.sheet.specs.Answer.{answerOf, answerWritten, answerRoom};
+use analyser::Method;
+use analyser::Reading;
+use blend::Blend;
+use blend::Blended;
+use blend::Limits;
 use bonds::Bonds;
 use formula::Atoms;
+use refusal::Figure;
+use refusal::Refusal;
 use refusal::Temperature;
+use text::Written;
 
 #[no_mangle]
 pub extern "C" fn jlt_flash_by_bonds(
@@ -51,4 +70,77 @@ pub extern "C" fn jlt_lower_temperature_limit(
     ensures sound { λ _. ⌜ Sound (curve (now (temperatures .entry)) (now (pressures .entry))) ⌝ }
 {
     curve::lower_temperature_limit(fuel, temperatures, pressures)
+}
+
+#[no_mangle]
+pub extern "C" fn jlt_parts_of_percent(limit: f64, ceiling: f64, reading: f64) -> Figure
+    ensures { λ r. ⌜ r ≡ shownFigure (partsOf (methodOf limit ceiling) (Percent reading)) ⌝ }
+    ensures at_most { λ r. ⌜ r .value ≤ 1000000 ⌝ }
+{
+    analyser::parts_of(Method { limit, ceiling }, Reading::Percent(reading))
+}
+
+#[no_mangle]
+pub extern "C" fn jlt_parts_of_ppm(limit: f64, ceiling: f64, reading: f64) -> Figure
+    ensures { λ r. ⌜ r ≡ shownFigure (partsOf (methodOf limit ceiling) (Ppm reading)) ⌝ }
+    ensures at_most { λ r. ⌜ r .value ≤ 1000000 ⌝ }
+{
+    analyser::parts_of(Method { limit, ceiling }, Reading::Ppm(reading))
+}
+
+#[no_mangle]
+pub extern "C" fn jlt_parts_of_overload(limit: f64, ceiling: f64) -> Figure
+    ensures { λ r. ⌜ r ≡ shownFigure (partsOf (methodOf limit ceiling) Overload) ⌝ }
+    ensures at_most { λ r. ⌜ r .value ≤ 1000000 ⌝ }
+{
+    analyser::parts_of(Method { limit, ceiling }, Reading::Overload)
+}
+
+#[no_mangle]
+pub extern "C" fn jlt_add_fuel(blend: Blend, fuel: Atoms, parts: u64) -> Blended
+    ensures { λ r. ⌜ r ≡ shownBlend blend (adding blend (counts fuel) parts) ⌝ }
+{
+    blend::add_fuel(blend, fuel, parts)
+}
+
+#[no_mangle]
+pub extern "C" fn jlt_fuel_limits_at(fuel: Atoms, temperature: i64) -> Limits
+    ensures { λ r. ⌜ r ≡ shownLimits (fuelLimits (counts fuel) (some temperature)) ⌝ }
+    ensures as_blend { λ _. ⌜ AsBlend (counts fuel) (some temperature) ⌝ }
+{
+    limits::fuel_limits_at(fuel, temperature)
+}
+
+#[no_mangle]
+pub extern "C" fn jlt_oxygen_coefficient(fuel: Atoms) -> Figure
+    ensures { λ r. ⌜ r ≡ shownFigure (oxygenCoefficient fuel) ⌝ }
+    ensures bounded { λ r. ⌜ r .value ≤ 3800 ⌝ }
+{
+    oxygen::oxygen_coefficient(fuel)
+}
+
+#[no_mangle]
+pub extern "C" fn jlt_sheet_answer(sheet: &[u8]) -> Limits
+    ensures { λ r. ⌜ r ≡ shownLimits (sheetAnswer (now (sheet .entry))) ⌝ }
+    ensures by_model { λ _. ⌜ ByModel (now (sheet .entry)) ⌝ }
+{
+    sheet::sheet_answer(sheet)
+}
+
+#[no_mangle]
+pub extern "C" fn jlt_write_sheet_answer(
+    declined: Refusal,
+    lower: u64,
+    upper: u64,
+    out: &mut [u8],
+) -> Written
+    ensures { λ r. ⌜ r ≡ answerWritten (answerOf declined lower upper) (now (out .entry)) ⌝ }
+    ensures room { λ r. ⌜ now (out .exit) ≡ answerRoom (answerOf declined lower upper) (now (out .entry)) ⌝ }
+{
+    let answer = Limits {
+        refusal: declined,
+        lower,
+        upper,
+    };
+    sheet::write_answer(answer, out)
 }

@@ -6,9 +6,10 @@ use native.Mathlib.Decide.{decLt}
 use native.Mathlib.Omega.{arith}
 use borrow.Author.Tests.{lt-ltb, le-ltb}
 use lib.ListN.{length}
-use Rattle.refusal.specs.Outcome.{refused, answered, refusal}
+use Rattle.refusal.specs.Outcome.{Outcome, refused, answered, refusal}
 use Rattle.text.specs.Room.{putAt}
 use Rattle.text.specs.Writing.{placed, shownLength, holding}
+use Rattle.text.proofs.Rooms.{put-length}
 
 module _ (room t : List ℕ) where
   pub placed-no : length room < length t → placed (length room) t ≡ refused (refusal 17 0)
@@ -27,7 +28,11 @@ module _ (room t : List ℕ) where
       → (shownLength (answered t) ≡ shownLength (placed (length room) t)) × (out ≡ holding room (placed (length room) t))
   placed-whole l out e = rw (placed-yes l) (refl, e)
 
-  -- no answer is longer than the room
+  -- the room keeps its size, and no answer is longer
+  pub holding-length : (o : Outcome (List ℕ)) → length (holding room o) ≡ length room
+  holding-length (refused r) = refl
+  holding-length (answered u) = put-length room 0 u
+
   pub placed-within : shownLength (placed (length room) t) .length ≤ length room
   placed-within = go (decLt (length room) (length t))
     where

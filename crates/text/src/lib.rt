@@ -69,7 +69,7 @@ pub fn write_whole(out: &mut [u8], s: &[u8]) -> Written
     ensures { λ r. ⌜ r ≡ shownLength (placed (length (now (out .entry))) (now (s .entry))) ⌝ }
     ensures room { λ r. ⌜ now (out .exit) ≡ holding (now (out .entry)) (placed (length (now (out .entry))) (now (s .entry))) ⌝ }
 {
-    if out.len() < s.len() {
+    if s.len() > out.len() {
         return Written {
             refusal: Refusal {
                 number: refusal::NO_ROOM,

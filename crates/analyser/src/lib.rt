@@ -1,0 +1,128 @@
+// Analyser readings: a reading taken to whole parts per million, from the exact value of its float.
+ghost use mathlib.Core.Path.{_≡_};
+ghost use Prim.Native.Nat.{_*_, _^_, _≤_};
+ghost use lib.Dec.{T};
+ghost use Rattle.refusal.specs.Outcome.{refused, refusal, shownFigure};
+ghost use Rattle.refusal.specs.Numbers.{badReading};
+ghost use Rattle.rounding.specs.Fraction.{figure, whole, _⊠_};
+ghost use Rattle.analyser.specs.Reading.{isAmount, amount, upTo, goodMethod, converted, measured, overloaded, partsOf};
+ghost use Rattle.analyser.specs.Held.{Scale, Top, Scaled};
+use refusal::Figure;
+use refusal::Refusal;
+use rounding::round_div;
+
+// An analyser's method: its detection limit and its ceiling, in the reading's unit.
+pub struct Method {
+    pub limit: f64,
+    pub ceiling: f64,
+}
+
+pub enum Reading {
+    Percent(f64),
+    Ppm(f64),
+    Overload,
+}
+
+// Whether 0 ≤ x ≤ high.
+fn is_up_to(x: f64, high: f64) -> bool
+    requires { ⌜ T (isAmount high) ⌝ }
+    ensures { λ r. ⌜ r ≡ upTo x (amount high) ⌝ }
+{
+    if 0.0 <= x {
+        return x <= high;
+    }
+    false
+}
+
+// Whether 0 ≤ limit ≤ ceiling ≤ top.
+fn is_good(method: Method, top: f64) -> bool
+    requires { ⌜ T (isAmount top) ⌝ }
+    ensures { λ r. ⌜ r ≡ goodMethod (amount top) method ⌝ }
+{
+    if is_up_to(method.ceiling, top) {
+        return is_up_to(method.limit, method.ceiling);
+    }
+    false
+}
+
+// x units of factor · 2 ^ twos parts, rounded. By its bits x is significand · 2 ^ (exponent − 1075), or below 2 ^ −1022 where the exponent is 0.
+fn whole_parts(x: f64, factor: u64, twos: u64) -> u64
+    requires { ⌜ Scaled x factor twos ⌝ }
+    ensures { λ r. ⌜ r ≡ figure (whole (factor * 2 ^ twos) ⊠ amount x) ⌝ }
+{
+    let bits = f64::to_bits(x) % 0x8000_0000_0000_0000;
+    let exponent = bits / 0x10_0000_0000_0000;
+    if exponent + twos < 1012 {
+        // below half a part
+        return 0;
+    }
+    let significand = bits % 0x10_0000_0000_0000 + 0x10_0000_0000_0000;
+    let shift = 1075 - exponent - twos;
+    round_div(significand * factor, 1u64 << shift)
+}
+
+// The parts of an admitted reading: none below the limit.
+fn to_parts(method: Method, x: f64, factor: u64, twos: u64) -> u64
+    requires { ⌜ T (isAmount (method .limit)) × Scaled x factor twos ⌝ }
+    ensures { λ r. ⌜ r ≡ converted (factor * 2 ^ twos) method x ⌝ }
+{
+    if method.limit <= x {
+        return whole_parts(x, factor, twos);
+    }
+    0
+}
+
+// Refusal 14: place 0 for the method, 1 for the reading.
+fn refuse(place: u64) -> Figure
+    ensures { λ r. ⌜ r ≡ shownFigure (refused (refusal badReading place)) ⌝ }
+{
+    Figure {
+        refusal: Refusal {
+            number: refusal::BAD_READING,
+            place,
+        },
+        value: 0,
+    }
+}
+
+// The answer to a reading of x units of factor · 2 ^ twos parts, of which `top` make 1,000,000.
+fn measure(method: Method, x: f64, top: f64, factor: u64, twos: u64) -> Figure
+    requires { ⌜ Scale factor twos × Top top (factor * 2 ^ twos) ⌝ }
+    ensures { λ r. ⌜ r ≡ shownFigure (measured (amount top) (factor * 2 ^ twos) method x) ⌝ }
+{
+    if !is_good(method, top) {
+        return refuse(0);
+    }
+    if !is_up_to(x, method.ceiling) {
+        return refuse(1);
+    }
+    Figure {
+        refusal: Refusal {
+            number: 0,
+            place: 0,
+        },
+        value: to_parts(method, x, factor, twos),
+    }
+}
+
+// The answer to an overload, whose method is in parts per million.
+fn overload(method: Method) -> Figure
+    ensures { λ r. ⌜ r ≡ shownFigure (overloaded method) ⌝ }
+{
+    if !is_good(method, 1000000.0) {
+        return refuse(0);
+    }
+    refuse(1)
+}
+
+// The parts per million of a reading. A percent is 10,000 = 625 · 2 ^ 4 parts: 53 bits times 625 fit into 64. Refusal 14.
+pub fn parts_of(method: Method, reading: Reading) -> Figure
+    ensures { λ r. ⌜ r ≡ shownFigure (partsOf method reading) ⌝ }
+    ensures at_most { λ r. ⌜ r .value ≤ 1000000 ⌝ }
+{
+    match reading {
+        Reading::Percent(x) => measure(method, x, 100.0, 625, 4),
+        Reading::Ppm(x) => measure(method, x, 1000000.0, 1, 0),
+        Reading::Overload => overload(method),
+    }
+}

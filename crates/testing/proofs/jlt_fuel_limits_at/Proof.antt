@@ -1,0 +1,14 @@
+-- `jlt_fuel_limits_at` hands its signed temperature on to `fuel_limits_at`.
+use borrow.Author.Needs.{needs}
+use mir.Facts.{toZ-ofZ}
+use Rattle.testing.proofs.jlt_fuel_limits_at.Statement.{statement}
+use Rattle.testing.proofs.jlt_fuel_limits_at.Tie as tie
+
+fuel-limits-at-requires : tie.Need-fuel-limits-at-requires
+fuel-limits-at-requires c κs = search needs
+
+returns : tie.Need-returns
+returns c = rw (toZ-ofZ (c .before .fits .temperature)) at (c .fuel-limits-at .ensures)
+
+pub jlt-fuel-limits-at-spec : {M : Type 1} → statement M
+jlt-fuel-limits-at-spec = tie.close (tie.spec fuel-limits-at-requires returns)
