@@ -1,0 +1,2 @@
+//! Times.
+pub fn run() {}

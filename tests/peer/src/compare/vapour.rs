@@ -1,0 +1,72 @@
+//! The two questions of a vapour curve.
+
+use super::{Source, Tally};
+use crate::curves::{good, spoil, Curve};
+use crate::generate::{counts, Random};
+use crate::library::*;
+use peer::curve;
+use peer::formula::Atoms;
+use peer::limits::{admit, fuel_limits_at as peer_limits_at, OXYGEN};
+
+pub fn run(source: &mut Source) -> u64 {
+    lower_limits(source) + flashes(source)
+}
+
+const CASES: u64 = 60_000;
+
+/// A curve on which `least` is the smallest pressure that meets the condition; one in six is spoilt.
+fn curve_for(random: &mut Random, least: impl Fn(i64) -> u64) -> Curve {
+    let mut curve = good(random, least);
+    if random.one_in(6) {
+        spoil(random, &mut curve);
+    }
+    curve
+}
+
+fn lower_limits(source: &mut Source) -> u64 {
+    let mut tally = Tally::new("jlt_lower_temperature_limit", &[0, 2, 3, 4, 11, 12, 13]);
+    for _ in 0..CASES {
+        let fuel = counts(&mut source.random);
+        let lower = peer_limits_at(&fuel, 2_500).map_or(300, |pair| pair.lower);
+        let curve = curve_for(&mut source.random, |_| (lower * 1_013).div_ceil(100));
+        let Curve { temperatures, pressures } = &curve;
+        let (t, p) = (source.temperatures.hold(temperatures), source.pressures.hold(pressures));
+        let peer = temperature_of(curve::lower_temperature_limit(&fuel, temperatures, pressures));
+        tally.compare(lower_temperature_limit(&fuel, t, p), peer, || format!("{fuel:?} on {temperatures:?} {pressures:?}"));
+        assert!(t == &temperatures[..] && p == &pressures[..], "a lent curve changed");
+    }
+    tally.finish()
+}
+
+fn diffusion(random: &mut Random) -> u64 {
+    match random.below(6) {
+        0 => random.pick(&[0, 1, 20_000, 20_001, u64::MAX]),
+        1 => random.below(20_000) + 1,
+        _ => random.below(1_500) + 200,
+    }
+}
+
+/// The smallest pressure that meets formula (35) at a temperature, for a fuel as given or as if it were admitted.
+fn least_pressure(method: u64, fuel: &Atoms, diffusion: u64) -> impl Fn(i64) -> u64 {
+    let level = [280, 427, 453][method.clamp(1, 3) as usize - 1] * 4_000_000_000;
+    let factor = admit(fuel, &OXYGEN).unwrap_or(20) * diffusion.clamp(1, 20_000);
+    move |t| u64::div_ceil(level, (t + 27_300) as u64 * factor)
+}
+
+fn flashes(source: &mut Source) -> u64 {
+    let mut tally = Tally::new("jlt_flash_by_curve", &[0, 2, 3, 4, 11, 12, 13, 16, 18]);
+    for _ in 0..CASES {
+        let fuel = counts(&mut source.random);
+        let method = if source.random.one_in(16) { source.random.pick(&[0, 4, u64::MAX]) } else { source.random.below(3) + 1 };
+        let diffusion = diffusion(&mut source.random);
+        let curve = curve_for(&mut source.random, least_pressure(method, &fuel, diffusion));
+        let Curve { temperatures, pressures } = &curve;
+        let (t, p) = (source.temperatures.hold(temperatures), source.pressures.hold(pressures));
+        let peer = temperature_of(curve::flash(method, &fuel, diffusion, temperatures, pressures));
+        tally.compare(flash_by_curve(method, &fuel, diffusion, t, p), peer, || {
+            format!("method {method}, {fuel:?}, D0 {diffusion} on {temperatures:?} {pressures:?}")
+        });
+        assert!(t == &temperatures[..] && p == &pressures[..], "a lent curve changed");
+    }
+    tally.finish()
+}
