@@ -36,7 +36,8 @@ fn rising(random: &mut Random, count: usize, low: i64, high: i64) -> Vec<i64> {
 
 /// The temperatures of a curve: anywhere, in a narrow range, or reaching an end of the range.
 fn temperatures(random: &mut Random, count: usize) -> Vec<i64> {
-    let wide = (count as i64 * 3).max(random.within(10, 80_000)).min(HOTTEST - COLDEST);
+    let span = random.pick(&[30, 300, 3_000, 80_000]);
+    let wide = (count as i64 * 3).max(random.within(10, span)).min(HOTTEST - COLDEST);
     let low = random.within(COLDEST, HOTTEST - wide);
     let mut found = rising(random, count, low, low + wide);
     if random.one_in(6) {
@@ -63,7 +64,11 @@ pub fn good(random: &mut Random, least: impl Fn(i64) -> u64) -> Curve {
     let mut pressures = pressures(random, count, most);
     if random.one_in(2) {
         let chosen = random.pick(&[0, count - 1, random.0 as usize % count]);
-        move_point(&mut pressures, chosen, least(temperatures[chosen]).saturating_add(random.pick(&[0, 0, 1])).saturating_sub(random.below(2)));
+        move_point(
+            &mut pressures,
+            chosen,
+            least(temperatures[chosen]).saturating_add(random.pick(&[0, 0, 1])).saturating_sub(random.below(2)),
+        );
     }
     Curve { temperatures, pressures }
 }
@@ -87,7 +92,7 @@ fn move_point(pressures: &mut [u64], chosen: usize, wanted: u64) {
 pub fn spoil(random: &mut Random, curve: &mut Curve) {
     let count = curve.temperatures.len();
     let point = random.pick(&[0, 1, count - 1, random.0 as usize % count]);
-    match random.below(10) {
+    match random.below(11) {
         0 => curve.temperatures[point] = random.pick(&[COLDEST - 1, HOTTEST + 1, -27_300, -27_301, i64::MIN, i64::MAX]),
         1 => curve.pressures[point] = random.pick(&[0, MOST_PRESSURE + 1, u64::MAX, 1 << 63]),
         2 if point > 0 => curve.temperatures[point] = curve.temperatures[point - 1] - random.below(2) as i64,
@@ -97,11 +102,20 @@ pub fn spoil(random: &mut Random, curve: &mut Curve) {
         6 => drop(curve.pressures.pop()),
         7 => shorten(random, curve),
         8 => lengthen(curve),
+        9 => random.pick(&[empty_temperatures as fn(&mut Curve), empty_pressures])(curve),
         _ => {
             let other = random.index(count);
             curve.pressures.swap(point, other);
         }
     }
+}
+
+fn empty_temperatures(curve: &mut Curve) {
+    curve.temperatures.clear();
+}
+
+fn empty_pressures(curve: &mut Curve) {
+    curve.pressures.clear();
 }
 
 /// No point, or one.

@@ -43,8 +43,7 @@ impl Random {
 
 const ALPHABET: &[u8] = b"CHONSPFClBrSi()0123456789(C)Cl";
 const COUNT_EDGES: [&str; 14] = ["0", "1", "2", "9", "10", "99", "100", "199", "200", "201", "999", "1000", "01", "007"];
-pub const NUMBER_EDGES: [u64; 12] =
-    [0, 1, 2, 199, 200, 201, 202, 255, 1 << 32, u64::MAX / 2 + 1, u64::MAX - 1, u64::MAX];
+pub const NUMBER_EDGES: [u64; 12] = [0, 1, 2, 199, 200, 201, 202, 255, 1 << 32, u64::MAX / 2 + 1, u64::MAX - 1, u64::MAX];
 
 fn push_symbol(random: &mut Random, out: &mut Vec<u8>) {
     let element = if random.one_in(2) { random.index(4) } else { random.index(10) };
@@ -113,7 +112,7 @@ fn nested(random: &mut Random) -> Vec<u8> {
         push_symbol(random, &mut out);
     }
     for _ in 0..depth {
-        out.push(b'(');
+        out.extend(b"(");
         if random.one_in(3) {
             push_symbol(random, &mut out);
         }

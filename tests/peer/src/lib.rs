@@ -10,4 +10,5 @@ pub mod formula;
 pub mod grammar;
 pub mod limits;
 pub mod refusal;
+pub mod scan;
 pub mod sheet;

@@ -60,7 +60,18 @@ mod c {
     extern "C" {
         pub fn jlw_read_formula(text: *const u8, text_len: usize) -> Formula;
         pub fn jlw_write_formula(
-            c: u64, h: u64, o: u64, n: u64, s: u64, p: u64, f: u64, cl: u64, br: u64, si: u64, out: *mut u8, out_len: usize,
+            c: u64,
+            h: u64,
+            o: u64,
+            n: u64,
+            s: u64,
+            p: u64,
+            f: u64,
+            cl: u64,
+            br: u64,
+            si: u64,
+            out: *mut u8,
+            out_len: usize,
         ) -> Figure;
         pub fn jlw_oxygen_coefficient(text: *const u8, text_len: usize) -> Figure;
         pub fn jlw_stoichiometric_fraction(text: *const u8, text_len: usize) -> Figure;
@@ -69,19 +80,21 @@ mod c {
         pub fn jlw_mass_concentration(text: *const u8, text_len: usize, temperature: i64) -> Limits;
         pub fn jlw_empty_blend() -> Blend;
         pub fn jlw_add_fuel(total: u64, lower: u64, upper: u64, text: *const u8, text_len: usize, parts: u64) -> Blended;
-        pub fn jlw_join_blends(
-            total: u64, lower: u64, upper: u64, other_total: u64, other_lower: u64, other_upper: u64,
-        ) -> Blended;
+        pub fn jlw_join_blends(total: u64, lower: u64, upper: u64, other_total: u64, other_lower: u64, other_upper: u64) -> Blended;
         pub fn jlw_blend_limits(total: u64, lower: u64, upper: u64) -> Limits;
         pub fn jlw_blend_limits_at(total: u64, lower: u64, upper: u64, temperature: i64) -> Limits;
         pub fn jlt_flash_by_bonds(method: u64, atoms: Counts, bonds: BondCounts, boiling: i64) -> Temperature;
         pub fn jlt_flash_by_class(class_number: u64, boiling: i64) -> Temperature;
         pub fn jlt_flash_by_curve(
-            method: u64, fuel: Counts, diffusion: u64, t: *const i64, t_len: usize, p: *const u64, p_len: usize,
+            method: u64,
+            fuel: Counts,
+            diffusion: u64,
+            t: *const i64,
+            t_len: usize,
+            p: *const u64,
+            p_len: usize,
         ) -> Temperature;
-        pub fn jlt_lower_temperature_limit(
-            fuel: Counts, t: *const i64, t_len: usize, p: *const u64, p_len: usize,
-        ) -> Temperature;
+        pub fn jlt_lower_temperature_limit(fuel: Counts, t: *const i64, t_len: usize, p: *const u64, p_len: usize) -> Temperature;
     }
 
     #[cfg(feature = "pending")]

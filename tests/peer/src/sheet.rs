@@ -3,9 +3,11 @@
 use crate::blend::Blend;
 use crate::limits::Pair;
 use crate::refusal::{refuse, refuse_if, Answer, Refusal};
+use std::io::Write;
 
 const MOST_BYTES: usize = 64 * 1_024;
 const HEADER: &[u8] = b"formula,parts";
+const ANSWER: &str = "answer,record,lower,upper\r\n";
 
 /// Form for the whole sheet first, then the records in order, then the limits.
 pub fn answer(sheet: &[u8]) -> Answer<Pair> {
@@ -64,12 +66,17 @@ fn parts(digits: &[u8]) -> Option<u64> {
 
 /// The answer as text at the start of `out`, and its length; a refusal writes nothing.
 pub fn write_answer(answer: Answer<Pair>, out: &mut [u8]) -> Answer<usize> {
-    let line = match answer {
-        Ok(Pair { lower, upper }) => format!("0,0,{}.{:02},{}.{:02}", lower / 100, lower % 100, upper / 100, upper % 100),
-        Err(Refusal { number, place }) => format!("{number},{place},,"),
+    let mut line = [0; 96]; // at most 76 bytes
+    let mut rest = &mut line[..];
+    let written = match answer {
+        Ok(Pair { lower, upper }) => {
+            write!(rest, "{ANSWER}0,0,{}.{:02},{}.{:02}\r\n", lower / 100, lower % 100, upper / 100, upper % 100)
+        }
+        Err(Refusal { number, place }) => write!(rest, "{ANSWER}{number},{place},,\r\n"),
     };
-    let text = format!("answer,record,lower,upper\r\n{line}\r\n");
-    refuse_if(text.len() > out.len(), 17, 0)?;
-    out[..text.len()].copy_from_slice(text.as_bytes());
-    Ok(text.len())
+    debug_assert!(written.is_ok());
+    let length = 96 - rest.len();
+    refuse_if(length > out.len(), 17, 0)?;
+    out[..length].copy_from_slice(&line[..length]);
+    Ok(length)
 }

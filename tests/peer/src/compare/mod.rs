@@ -14,7 +14,7 @@ mod sheets;
 use crate::fence::Fence;
 use crate::generate::Random;
 use crate::library::Shown;
-use std::collections::BTreeMap;
+use std::collections::{BTreeMap, BTreeSet};
 use std::process::exit;
 
 const SEED: u64 = 0x4a61_6c6f_6f73_6577;
@@ -31,12 +31,8 @@ pub struct Source {
 pub fn run() {
     println!("seed {SEED:#x}");
     figures::check();
-    let mut source = Source {
-        random: Random(SEED),
-        bytes: Fence::new(1 << 18),
-        temperatures: Fence::new(8 * 5_000),
-        pressures: Fence::new(8 * 5_000),
-    };
+    let mut source =
+        Source { random: Random(SEED), bytes: Fence::new(1 << 18), temperatures: Fence::new(8 * 5_000), pressures: Fence::new(8 * 5_000) };
     let parts: &[fn(&mut Source) -> u64] = &[
         texts::run,
         blends::run,
@@ -63,7 +59,7 @@ pub fn fail(message: &str) -> ! {
 struct Tally {
     function: &'static str,
     numbers: &'static [u64],
-    given: BTreeMap<u64, (u64, BTreeMap<u64, ()>)>,
+    given: BTreeMap<u64, (u64, BTreeSet<u64>)>,
     inputs: u64,
 }
 
@@ -84,7 +80,7 @@ impl Tally {
         let refusal = answer.refusal();
         let (times, places) = self.given.entry(refusal.number).or_default();
         *times += 1;
-        places.insert(refusal.place, ());
+        places.insert(refusal.place);
         self.inputs += 1;
     }
 
@@ -112,9 +108,8 @@ impl Tally {
             }
         }
         println!();
-        for number in self.numbers.iter().filter(|number| !self.given.contains_key(number)) {
-            let what = if *number == 0 { "answer".to_string() } else { format!("refusal {number}") };
-            fail(&format!("{}: no input had {what}", self.function));
+        if let Some(number) = self.numbers.iter().find(|number| !self.given.contains_key(number)) {
+            fail(&format!("{}: no input had refusal {number} (0: an answer)", self.function));
         }
         self.inputs
     }

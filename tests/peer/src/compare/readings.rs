@@ -19,7 +19,12 @@ fn kind(source: &mut Source, name: &'static str, numbers: &'static [u64], most: 
         let found = parts(method, reading(value));
         tally.compare(found, figure_of(analyser::parts(method, reading(value))), || {
             let Method { limit, ceiling } = method;
-            format!("limit {limit:e} ceiling {ceiling:e} reading {value:e} ({:#x} {:#x} {:#x})", limit.to_bits(), ceiling.to_bits(), value.to_bits())
+            format!(
+                "limit {limit:e} ceiling {ceiling:e} reading {value:e} ({:#x} {:#x} {:#x})",
+                limit.to_bits(),
+                ceiling.to_bits(),
+                value.to_bits()
+            )
         });
     }
     tally.finish()
@@ -90,7 +95,21 @@ fn near(random: &mut Random, value: f64) -> f64 {
 }
 
 fn special(random: &mut Random, most: f64) -> f64 {
-    let numbers = [0.0, most, 5e-324, 2.2250738585072014e-308, 2.225073858507201e-308, 1.0, 0.5, 1e-5, 5e-5, 1e300, f64::MAX, f64::INFINITY, f64::NAN];
+    let numbers = [
+        0.0,
+        most,
+        5e-324,
+        2.2250738585072014e-308,
+        2.225073858507201e-308,
+        1.0,
+        0.5,
+        1e-5,
+        5e-5,
+        1e300,
+        f64::MAX,
+        f64::INFINITY,
+        f64::NAN,
+    ];
     let bits = match random.below(8) {
         0 => random.next(),
         1 => 0x7ff0_0000_0000_0000 | random.next(),

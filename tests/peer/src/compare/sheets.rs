@@ -13,7 +13,15 @@ pub fn run(source: &mut Source) -> u64 {
 
 const ALPHABET: &[u8] = b",,\"\r\n\r\n00123456789CHON()";
 const HEADERS: [&str; 10] = [
-    "", "formula", "formula,parts,", "Formula,parts", "formula, parts", "\u{feff}formula,parts", "\"formula\",parts", "formula,parts\n", "formula,parts\r",
+    "",
+    "formula",
+    "formula,parts,",
+    "Formula,parts",
+    "formula, parts",
+    "\u{feff}formula,parts",
+    "\"formula\",parts",
+    "formula,parts\n",
+    "formula,parts\r",
     "formula;parts",
 ];
 const PARTS: [&str; 16] =

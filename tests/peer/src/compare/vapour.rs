@@ -1,12 +1,13 @@
 //! The two questions of a vapour curve.
 
-use super::{Source, Tally};
+use super::{fail, Source, Tally};
 use crate::curves::{good, spoil, Curve};
 use crate::generate::{counts, Random};
 use crate::library::*;
 use peer::curve;
 use peer::formula::Atoms;
 use peer::limits::{admit, fuel_limits_at as peer_limits_at, OXYGEN};
+use peer::scan;
 
 pub fn run(source: &mut Source) -> u64 {
     lower_limits(source) + flashes(source)
@@ -23,8 +24,32 @@ fn curve_for(random: &mut Random, least: impl Fn(i64) -> u64) -> Curve {
     curve
 }
 
+/// The widest curve, in hundredths, that is also searched one by one.
+const SCANNED: i64 = 3_000;
+
+/// Holds an answer about a narrow curve to a search of every hundredth: the first that meets the condition, 12 at the first point, 13 for none.
+/// Answers whether there was one to hold.
+fn scanned(library: Temperature, curve: &Curve, search: impl Fn() -> Option<i64>, input: impl FnOnce() -> String) -> bool {
+    let Curve { temperatures, .. } = curve;
+    let answered = matches!(library.refusal.number, 0 | 12 | 13);
+    if !answered || temperatures[temperatures.len() - 1] - temperatures[0] > SCANNED || temperatures.len() > 50 {
+        return false;
+    }
+    let found = search();
+    let good = match library.refusal.number {
+        0 => found == Some(library.value) && library.value > temperatures[0],
+        12 => found == Some(temperatures[0]),
+        _ => found.is_none(),
+    };
+    if !good {
+        fail(&format!("{}\n  library {library:?}\n  one by one {found:?}", input()));
+    }
+    true
+}
+
 fn lower_limits(source: &mut Source) -> u64 {
     let mut tally = Tally::new("jlt_lower_temperature_limit", &[0, 2, 3, 4, 11, 12, 13]);
+    let mut scans = 0;
     for _ in 0..CASES {
         let fuel = counts(&mut source.random);
         let lower = peer_limits_at(&fuel, 2_500).map_or(300, |pair| pair.lower);
@@ -32,10 +57,15 @@ fn lower_limits(source: &mut Source) -> u64 {
         let Curve { temperatures, pressures } = &curve;
         let (t, p) = (source.temperatures.hold(temperatures), source.pressures.hold(pressures));
         let peer = temperature_of(curve::lower_temperature_limit(&fuel, temperatures, pressures));
-        tally.compare(lower_temperature_limit(&fuel, t, p), peer, || format!("{fuel:?} on {temperatures:?} {pressures:?}"));
+        let library = lower_temperature_limit(&fuel, t, p);
+        let input = || format!("{fuel:?} on {temperatures:?} {pressures:?}");
+        tally.compare(library, peer, input);
         assert!(t == &temperatures[..] && p == &pressures[..], "a lent curve changed");
+        scans += u64::from(scanned(library, &curve, || scan::lower_temperature_limit(lower, temperatures, pressures), input));
     }
-    tally.finish()
+    let inputs = tally.finish();
+    println!("    {scans} of them also searched one by one");
+    inputs
 }
 
 fn diffusion(random: &mut Random) -> u64 {
@@ -46,15 +76,19 @@ fn diffusion(random: &mut Random) -> u64 {
     }
 }
 
+fn level(method: u64) -> u64 {
+    [280, 427, 453][method.clamp(1, 3) as usize - 1]
+}
+
 /// The smallest pressure that meets formula (35) at a temperature, for a fuel as given or as if it were admitted.
 fn least_pressure(method: u64, fuel: &Atoms, diffusion: u64) -> impl Fn(i64) -> u64 {
-    let level = [280, 427, 453][method.clamp(1, 3) as usize - 1] * 4_000_000_000;
     let factor = admit(fuel, &OXYGEN).unwrap_or(20) * diffusion.clamp(1, 20_000);
-    move |t| u64::div_ceil(level, (t + 27_300) as u64 * factor)
+    move |t| u64::div_ceil(level(method) * 4_000_000_000, (t + 27_300) as u64 * factor)
 }
 
 fn flashes(source: &mut Source) -> u64 {
     let mut tally = Tally::new("jlt_flash_by_curve", &[0, 2, 3, 4, 11, 12, 13, 16, 18]);
+    let mut scans = 0;
     for _ in 0..CASES {
         let fuel = counts(&mut source.random);
         let method = if source.random.one_in(16) { source.random.pick(&[0, 4, u64::MAX]) } else { source.random.below(3) + 1 };
@@ -63,10 +97,13 @@ fn flashes(source: &mut Source) -> u64 {
         let Curve { temperatures, pressures } = &curve;
         let (t, p) = (source.temperatures.hold(temperatures), source.pressures.hold(pressures));
         let peer = temperature_of(curve::flash(method, &fuel, diffusion, temperatures, pressures));
-        tally.compare(flash_by_curve(method, &fuel, diffusion, t, p), peer, || {
-            format!("method {method}, {fuel:?}, D0 {diffusion} on {temperatures:?} {pressures:?}")
-        });
+        let library = flash_by_curve(method, &fuel, diffusion, t, p);
+        let input = || format!("method {method}, {fuel:?}, D0 {diffusion} on {temperatures:?} {pressures:?}");
+        tally.compare(library, peer, input);
         assert!(t == &temperatures[..] && p == &pressures[..], "a lent curve changed");
+        scans += u64::from(scanned(library, &curve, || scan::flash(level(method), &fuel, diffusion, temperatures, pressures), input));
     }
-    tally.finish()
+    let inputs = tally.finish();
+    println!("    {scans} of them also searched one by one");
+    inputs
 }
