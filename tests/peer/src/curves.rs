@@ -63,7 +63,8 @@ pub fn good(random: &mut Random, least: impl Fn(i64) -> u64) -> Curve {
     let most = if random.one_in(3) { MOST_PRESSURE } else { wanted.saturating_mul(random.below(4) + 1) };
     let mut pressures = pressures(random, count, most);
     if random.one_in(2) {
-        let chosen = random.pick(&[0, count - 1, random.0 as usize % count]);
+        let any = random.index(count);
+        let chosen = random.pick(&[0, count - 1, any]);
         move_point(
             &mut pressures,
             chosen,
@@ -91,7 +92,8 @@ fn move_point(pressures: &mut [u64], chosen: usize, wanted: u64) {
 /// Spoils one point or the lengths.
 pub fn spoil(random: &mut Random, curve: &mut Curve) {
     let count = curve.temperatures.len();
-    let point = random.pick(&[0, 1, count - 1, random.0 as usize % count]);
+    let any = random.index(count);
+    let point = random.pick(&[0, 1, count - 1, any]);
     match random.below(11) {
         0 => curve.temperatures[point] = random.pick(&[COLDEST - 1, HOTTEST + 1, -27_300, -27_301, i64::MIN, i64::MAX]),
         1 => curve.pressures[point] = random.pick(&[0, MOST_PRESSURE + 1, u64::MAX, 1 << 63]),

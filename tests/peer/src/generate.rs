@@ -125,6 +125,18 @@ fn nested(random: &mut Random) -> Vec<u8> {
     out
 }
 
+/// Groups with counts of powers of two, whose products end in many zero bits.
+fn tower(random: &mut Random) -> Vec<u8> {
+    let depth = random.within(1, 8) as usize;
+    let mut out = vec![b'('; depth];
+    push_symbol(random, &mut out);
+    for _ in 0..depth {
+        out.extend(format!("{})", random.pick(&[64, 128, 256, 512, 512])).bytes());
+    }
+    out.extend(random.pick(&["", "512", "H", "C3"]).bytes());
+    out
+}
+
 /// An item with a count at the edge, between others.
 fn edge_count(random: &mut Random) -> Vec<u8> {
     let mut out = Vec::new();
@@ -200,7 +212,8 @@ pub fn text(random: &mut Random) -> Vec<u8> {
             let length = random.index(240);
             long_formula(random, length)
         }
-        7..=8 => nested(random),
+        7 => nested(random),
+        8 => tower(random),
         9..=10 => edge_count(random),
         11..=12 => edge_total(random),
         13 => soup(random),
