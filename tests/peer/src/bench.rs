@@ -2,7 +2,7 @@
 
 use crate::curves::Curve;
 use crate::generate::Random;
-use crate::library as lib;
+use crate::library::{self as lib, Shown, ANSWERED};
 use peer::blend::Blend;
 use peer::flash::{by_bonds, by_class};
 use peer::formula::{self, Atoms};
@@ -51,10 +51,14 @@ fn median(mut times: Vec<f64>) -> f64 {
 }
 
 /// One line: both sides over all inputs, called through pointers, in turns. Answers the library's time.
-fn row<I, A, B>(name: &str, inputs: &[I], library: fn(&I) -> A, peer: fn(&I) -> B) -> f64 {
+fn row<I, A: Shown, B>(name: &str, inputs: &[I], library: fn(&I) -> A, peer: fn(&I) -> B) -> f64 {
     let (first, second) = (0..ROUNDS).map(|_| (round(inputs, library), round(inputs, peer))).unzip();
     let (first, second) = (median(first), median(second));
-    println!("{name:<40}{first:>12.1}{second:>12.1}{:>8.2}", first / second);
+    print!("{name:<40}{first:>12.1}{second:>12.1}{:>8.2}", first / second);
+    match inputs.iter().filter(|input| library(input).refusal() != ANSWERED).count() {
+        0 => println!(),
+        refused => println!("   {refused} of {} refused", inputs.len()),
+    }
     first
 }
 
@@ -183,8 +187,8 @@ fn vapour(random: &mut Random) -> bool {
         let flash = row(
             &format!("jlt_flash_by_curve, {points} points"),
             &inputs,
-            |(fuel, curve)| lib::flash_by_curve(1, fuel, 300, &curve.temperatures, &curve.pressures),
-            |(fuel, curve)| curve::flash(1, fuel, 300, &curve.temperatures, &curve.pressures),
+            |(fuel, curve)| lib::flash_by_curve(1, fuel, 600, &curve.temperatures, &curve.pressures),
+            |(fuel, curve)| curve::flash(1, fuel, 600, &curve.temperatures, &curve.pressures),
         );
         sizes.0.push((points, limit));
         sizes.1.push((points, flash));
@@ -243,7 +247,7 @@ fn sheets(random: &mut Random) -> bool {
     row(
         "jlt_write_sheet_answer",
         &pairs,
-        |pair| lib::write_sheet_answer(lib::ANSWERED, pair.lower, pair.upper, &mut [0; 96]),
+        |pair| lib::write_sheet_answer(ANSWERED, pair.lower, pair.upper, &mut [0; 96]),
         |pair| sheet::write_answer(Ok(*pair), &mut [0; 96]),
     );
     good

@@ -38,8 +38,8 @@ impl<'a> Iterator for Lines<'a> {
         if self.0.is_empty() {
             return None;
         }
-        let end = self.0.windows(2).position(|pair| pair == b"\r\n");
-        let (line, rest) = end.map_or((self.0, &[][..]), |end| (&self.0[..end], &self.0[end + 2..]));
+        let end = (1..self.0.len()).find(|&at| self.0[at] == b'\n' && self.0[at - 1] == b'\r');
+        let (line, rest) = end.map_or((self.0, &[][..]), |end| (&self.0[..end - 1], &self.0[end + 1..]));
         self.0 = rest;
         Some(line)
     }
@@ -47,12 +47,9 @@ impl<'a> Iterator for Lines<'a> {
 
 /// Two fields without quote mark, CR or LF, the second a number of parts.
 fn record(line: &[u8]) -> Option<(&[u8], u64)> {
-    if line.iter().any(|byte| matches!(byte, b'"' | b'\r' | b'\n')) {
-        return None;
-    }
-    let mut fields = line.split(|&byte| byte == b',');
-    let (formula, digits) = (fields.next()?, fields.next()?);
-    if fields.next().is_some() {
+    let comma = line.iter().position(|&byte| byte == b',')?;
+    let (formula, digits) = (&line[..comma], &line[comma + 1..]);
+    if formula.iter().any(|byte| matches!(byte, b'"' | b'\r' | b'\n')) {
         return None;
     }
     Some((formula, parts(digits)?))
