@@ -82,10 +82,10 @@ fn element(text: &[u8], at: usize) -> Answer<(usize, usize)> {
 
 /// The optional count at a place, at most three digits, and the place after it.
 fn count(text: &[u8], at: usize) -> (u64, usize) {
-    let digits = text[at..].iter().take(3).take_while(|byte| byte.is_ascii_digit());
     if text.get(at) == Some(&b'0') {
         return (1, at);
     }
+    let digits = text[at..].iter().take(3).take_while(|byte| byte.is_ascii_digit());
     let (value, length) = digits.fold((0, 0), |(value, length), byte| (value * 10 + u64::from(byte - b'0'), length + 1));
     (value.max(1), at + length)
 }

@@ -87,6 +87,9 @@ fn write_into_rooms(source: &mut Source, tally: &mut Tally, atoms: &Atoms) {
         let peer = figure_of(formula::write(atoms, &mut expected).map(|length| length as u64));
         tally.compare(library, peer, || format!("{atoms:?} into {room} bytes"));
         tally.compare_bytes(lent, &expected, || format!("{atoms:?} into {room} bytes of {fill}"));
+        if library.refusal == ANSWERED && read_formula(&lent[..library.value as usize]) != formula_of(Ok(*atoms)) {
+            fail(&format!("{atoms:?} are written as {}, which reads otherwise", lent.escape_ascii()));
+        }
     }
 }
 
