@@ -9,18 +9,6 @@
 #include <string.h>
 #include <sys/mman.h>
 
-#ifdef PENDING
-/* Functions of testing.h that are still to come. */
-jlw_figure jlt_parts_of_percent(double limit, double ceiling, double reading);
-jlw_figure jlt_parts_of_ppm(double limit, double ceiling, double reading);
-jlw_figure jlt_parts_of_overload(double limit, double ceiling);
-jlw_blended jlt_add_fuel(jlw_blend blend, jlw_atoms fuel, uint64_t parts);
-jlw_limits jlt_fuel_limits_at(jlw_atoms fuel, int64_t temperature);
-jlw_figure jlt_oxygen_coefficient(jlw_atoms fuel);
-jlw_limits jlt_sheet_answer(const uint8_t *sheet, size_t sheet_len);
-jlw_written jlt_write_sheet_answer(jlw_refusal refusal, uint64_t lower, uint64_t upper, uint8_t *out, size_t out_len);
-#endif
-
 static int checks, failures;
 
 #define CHECK(condition)                                                           \
@@ -382,7 +370,6 @@ static void test_longest_curve(void)
     CHECK(temperature_refused(jlt_lower_temperature_limit(ethane, t, 4096, p, 4096), 11, 4095));
 }
 
-#ifdef PENDING
 static void test_readings(void)
 {
     CHECK(figure_is(jlt_parts_of_percent(0, 100, 100), 1000000));
@@ -473,7 +460,6 @@ static void test_sheet_answers(void)
     check_answer(form, 257, 1496, "15,12,,");
     check_answer(large, 0, 0, "18446744073709551615,18446744073709551615,,");
 }
-#endif
 
 int main(void)
 {
@@ -490,12 +476,10 @@ int main(void)
     test_curves();
     test_bad_curves();
     test_longest_curve();
-#ifdef PENDING
     test_readings();
     test_counts();
     test_sheets();
     test_sheet_answers();
-#endif
     printf("C: %d checks, %d failed\n", checks, failures);
     return failures != 0;
 }

@@ -3,10 +3,11 @@
 use crate::curves::Curve;
 use crate::generate::Random;
 use crate::library::{self as lib, Shown, ANSWERED};
+use peer::analyser::{parts, Method, Reading};
 use peer::blend::Blend;
 use peer::flash::{by_bonds, by_class};
 use peer::formula::{self, Atoms};
-use peer::{curve, limits};
+use peer::{curve, limits, sheet};
 use std::hint::black_box;
 use std::process::exit;
 use std::time::{Duration, Instant};
@@ -24,7 +25,9 @@ pub fn run() {
     fuels(random);
     blends(random);
     points(random);
-    let grows = texts(random) & vapour(random) & pending(random);
+    readings(random);
+    counts(random);
+    let grows = texts(random) & vapour(random) & sheets(random);
     if !grows {
         println!("FAILED: a cost grows faster than its input");
         exit(1);
@@ -196,21 +199,7 @@ fn vapour(random: &mut Random) -> bool {
     growth("point", &sizes.0) & growth("point", &sizes.1)
 }
 
-#[cfg(not(feature = "pending"))]
-fn pending(_: &mut Random) -> bool {
-    true
-}
-
-#[cfg(feature = "pending")]
-fn pending(random: &mut Random) -> bool {
-    readings(random);
-    counts(random);
-    sheets(random)
-}
-
-#[cfg(feature = "pending")]
 fn readings(random: &mut Random) {
-    use peer::analyser::{parts, Method, Reading};
     let shares = many(|| random.below(1 << 53) as f64 / (1u64 << 53) as f64);
     let percent = |share: &f64| (Method { limit: 0.01, ceiling: 100.0 }, Reading::Percent(100.0 * share));
     let ppm = |share: &f64| (Method { limit: 1.0, ceiling: 1e6 }, Reading::Ppm(1e6 * share));
@@ -221,7 +210,6 @@ fn readings(random: &mut Random) {
     }
 }
 
-#[cfg(feature = "pending")]
 fn counts(random: &mut Random) {
     let fuels = many(|| fuel(random));
     row("jlt_oxygen_coefficient", &fuels, lib::oxygen_coefficient_by_counts, limits::oxygen_coefficient);
@@ -235,9 +223,7 @@ fn counts(random: &mut Random) {
     );
 }
 
-#[cfg(feature = "pending")]
 fn sheets(random: &mut Random) -> bool {
-    use peer::sheet;
     let sizes = [1_024, 8_192, 65_536].map(|size| {
         let inputs = many(|| sheet_text(random, size));
         (size, row(&format!("jlt_sheet_answer, {size} bytes"), &inputs, |text| lib::sheet_answer(text), |text| sheet::answer(text)))
@@ -254,7 +240,6 @@ fn sheets(random: &mut Random) -> bool {
 }
 
 /// Records of fuels at a few parts each, up to so many bytes.
-#[cfg(feature = "pending")]
 fn sheet_text(random: &mut Random, size: usize) -> Vec<u8> {
     let mut out = b"formula,parts".to_vec();
     loop {

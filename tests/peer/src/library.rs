@@ -1,5 +1,6 @@
 //! The library's C interface, include/jaloosewin.h and tests/testing.h, and the peer's answers in its structs.
 
+use peer::analyser::{Method, Reading};
 use peer::blend::Blend;
 use peer::formula::Atoms;
 use peer::limits::Pair;
@@ -95,10 +96,6 @@ mod c {
             p_len: usize,
         ) -> Temperature;
         pub fn jlt_lower_temperature_limit(fuel: Counts, t: *const i64, t_len: usize, p: *const u64, p_len: usize) -> Temperature;
-    }
-
-    #[cfg(feature = "pending")]
-    extern "C" {
         pub fn jlt_parts_of_percent(limit: f64, ceiling: f64, reading: f64) -> Figure;
         pub fn jlt_parts_of_ppm(limit: f64, ceiling: f64, reading: f64) -> Figure;
         pub fn jlt_parts_of_overload(limit: f64, ceiling: f64) -> Figure;
@@ -192,42 +189,33 @@ pub fn lower_temperature_limit(fuel: &Atoms, t: &[i64], p: &[u64]) -> Temperatur
     unsafe { c::jlt_lower_temperature_limit(Counts { count: *fuel }, start(t), t.len(), start(p), p.len()) }
 }
 
-#[cfg(feature = "pending")]
-pub use pending::*;
-
-#[cfg(feature = "pending")]
-mod pending {
-    use super::*;
-    use peer::analyser::{Method, Reading};
-
-    pub fn parts(method: Method, reading: Reading) -> Figure {
-        let Method { limit, ceiling } = method;
-        match reading {
-            Reading::Percent(value) => unsafe { c::jlt_parts_of_percent(limit, ceiling, value) },
-            Reading::Ppm(value) => unsafe { c::jlt_parts_of_ppm(limit, ceiling, value) },
-            Reading::Overload => unsafe { c::jlt_parts_of_overload(limit, ceiling) },
-        }
+pub fn parts(method: Method, reading: Reading) -> Figure {
+    let Method { limit, ceiling } = method;
+    match reading {
+        Reading::Percent(value) => unsafe { c::jlt_parts_of_percent(limit, ceiling, value) },
+        Reading::Ppm(value) => unsafe { c::jlt_parts_of_ppm(limit, ceiling, value) },
+        Reading::Overload => unsafe { c::jlt_parts_of_overload(limit, ceiling) },
     }
+}
 
-    pub fn add_fuel_by_counts(blend: Blend, fuel: &Atoms, parts: u64) -> Blended {
-        unsafe { c::jlt_add_fuel(blend, Counts { count: *fuel }, parts) }
-    }
+pub fn add_fuel_by_counts(blend: Blend, fuel: &Atoms, parts: u64) -> Blended {
+    unsafe { c::jlt_add_fuel(blend, Counts { count: *fuel }, parts) }
+}
 
-    pub fn fuel_limits_by_counts(fuel: &Atoms, temperature: i64) -> Limits {
-        unsafe { c::jlt_fuel_limits_at(Counts { count: *fuel }, temperature) }
-    }
+pub fn fuel_limits_by_counts(fuel: &Atoms, temperature: i64) -> Limits {
+    unsafe { c::jlt_fuel_limits_at(Counts { count: *fuel }, temperature) }
+}
 
-    pub fn oxygen_coefficient_by_counts(fuel: &Atoms) -> Figure {
-        unsafe { c::jlt_oxygen_coefficient(Counts { count: *fuel }) }
-    }
+pub fn oxygen_coefficient_by_counts(fuel: &Atoms) -> Figure {
+    unsafe { c::jlt_oxygen_coefficient(Counts { count: *fuel }) }
+}
 
-    pub fn sheet_answer(sheet: &[u8]) -> Limits {
-        unsafe { c::jlt_sheet_answer(start(sheet), sheet.len()) }
-    }
+pub fn sheet_answer(sheet: &[u8]) -> Limits {
+    unsafe { c::jlt_sheet_answer(start(sheet), sheet.len()) }
+}
 
-    pub fn write_sheet_answer(refusal: Refusal, lower: u64, upper: u64, out: &mut [u8]) -> Figure {
-        unsafe { c::jlt_write_sheet_answer(refusal, lower, upper, start_mut(out), out.len()) }
-    }
+pub fn write_sheet_answer(refusal: Refusal, lower: u64, upper: u64, out: &mut [u8]) -> Figure {
+    unsafe { c::jlt_write_sheet_answer(refusal, lower, upper, start_mut(out), out.len()) }
 }
 
 /// An answer of either side.

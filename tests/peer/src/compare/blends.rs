@@ -1,7 +1,7 @@
 //! Blends handed in, true and nonsense, and lists of calls against the book of demand 3.
 
 use super::{fail, Source, Tally};
-use crate::generate::{blend, fuel_text, parts, temperature, tie, Random};
+use crate::generate::{blend, counts, fuel_text, parts, temperature, tie, Random};
 use crate::library::*;
 use peer::blend::Blend;
 use peer::book::Book;
@@ -31,16 +31,10 @@ fn add(source: &mut Source) -> u64 {
     tally.finish() + add_counts(source)
 }
 
-#[cfg(not(feature = "pending"))]
-fn add_counts(_: &mut Source) -> u64 {
-    0
-}
-
-#[cfg(feature = "pending")]
 fn add_counts(source: &mut Source) -> u64 {
     let mut tally = Tally::new("jlt_add_fuel", &[0, 2, 3, 4, 8, 28]);
     for _ in 0..120_000 {
-        let (blend, fuel) = (blend(&mut source.random), crate::generate::counts(&mut source.random));
+        let (blend, fuel) = (blend(&mut source.random), counts(&mut source.random));
         let parts = parts(&mut source.random);
         let peer = blended_of(blend.add(&fuel, parts), blend);
         tally.compare(add_fuel_by_counts(blend, &fuel, parts), peer, || format!("{blend:?} {fuel:?} parts {parts}"));
@@ -132,7 +126,7 @@ impl List {
     fn add(&mut self, page: usize, fuel: usize, parts: u64, by_counts: bool) -> Limits {
         let (blend, text) = (self.blends[page], &self.fuels[fuel]);
         let library = match formula::read(text) {
-            Ok(atoms) if by_counts => add_by_counts(blend, &atoms, text, parts),
+            Ok(atoms) if by_counts => add_fuel_by_counts(blend, &atoms, parts),
             _ => add_fuel(blend, text, parts),
         };
         self.blends[page] = library.blend;
@@ -145,16 +139,6 @@ impl List {
         let fuels = || self.fuels.iter().map(|text| text.escape_ascii().to_string()).collect::<Vec<_>>();
         tally.compare(library, book, || format!("fuels {:?}, calls {:?}", fuels(), self.calls));
     }
-}
-
-#[cfg(feature = "pending")]
-fn add_by_counts(blend: Blend, atoms: &formula::Atoms, _: &[u8], parts: u64) -> Blended {
-    add_fuel_by_counts(blend, atoms, parts)
-}
-
-#[cfg(not(feature = "pending"))]
-fn add_by_counts(blend: Blend, _: &formula::Atoms, text: &[u8], parts: u64) -> Blended {
-    add_fuel(blend, text, parts)
 }
 
 fn no_limits(refusal: Refusal) -> Limits {

@@ -3,13 +3,10 @@
 mod blends;
 mod bonds;
 mod figures;
+mod readings;
+mod sheets;
 mod texts;
 mod vapour;
-
-#[cfg(feature = "pending")]
-mod readings;
-#[cfg(feature = "pending")]
-mod sheets;
 
 use crate::fence::Fence;
 use crate::generate::Random;
@@ -33,16 +30,7 @@ pub fn run() {
     figures::check();
     let mut source =
         Source { random: Random(SEED), bytes: Fence::new(1 << 18), temperatures: Fence::new(8 * 5_000), pressures: Fence::new(8 * 5_000) };
-    let parts: &[fn(&mut Source) -> u64] = &[
-        texts::run,
-        blends::run,
-        bonds::run,
-        vapour::run,
-        #[cfg(feature = "pending")]
-        readings::run,
-        #[cfg(feature = "pending")]
-        sheets::run,
-    ];
+    let parts: &[fn(&mut Source) -> u64] = &[texts::run, blends::run, bonds::run, vapour::run, readings::run, sheets::run];
     let compared: u64 = parts.iter().map(|part| part(&mut source)).sum();
     if compared < LEAST_INPUTS {
         fail(&format!("{compared} inputs compared, fewer than {LEAST_INPUTS}"));

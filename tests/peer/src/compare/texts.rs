@@ -123,13 +123,7 @@ fn figure_at(source: &mut Source, name: &'static str, library: fn(&[u8], i64) ->
     tally.finish()
 }
 
-#[cfg(not(feature = "pending"))]
-fn by_counts(_: &mut Source) -> u64 {
-    0
-}
-
 /// The same questions with a fuel given by counts.
-#[cfg(feature = "pending")]
 fn by_counts(source: &mut Source) -> u64 {
     let mut oxygen = Tally::new("jlt_oxygen_coefficient", &[0, 2, 3, 4]);
     let mut limits_at = Tally::new("jlt_fuel_limits_at", &[0, 2, 3, 4, 10]);
