@@ -1,0 +1,104 @@
+//! Compares library and peer from a fixed seed. The first difference is printed in full and ends the run.
+
+mod blends;
+mod bonds;
+mod figures;
+mod readings;
+mod sheets;
+mod texts;
+mod vapour;
+
+use crate::fence::Fence;
+use crate::generate::Random;
+use crate::library::Shown;
+use std::collections::{BTreeMap, BTreeSet};
+use std::process::exit;
+
+const SEED: u64 = 0x4a61_6c6f_6f73_6577;
+const LEAST_INPUTS: u64 = 1_000_000;
+
+/// What a comparison draws on: numbers, and lent memory.
+pub struct Source {
+    random: Random,
+    bytes: Fence,
+    temperatures: Fence,
+    pressures: Fence,
+}
+
+pub fn run() {
+    println!("seed {SEED:#x}");
+    figures::check();
+    let mut source =
+        Source { random: Random(SEED), bytes: Fence::new(1 << 18), temperatures: Fence::new(8 * 5_000), pressures: Fence::new(8 * 5_000) };
+    let parts: &[fn(&mut Source) -> u64] = &[texts::run, blends::run, bonds::run, vapour::run, readings::run, sheets::run];
+    let compared: u64 = parts.iter().map(|part| part(&mut source)).sum();
+    if compared < LEAST_INPUTS {
+        fail(&format!("{compared} inputs compared, fewer than {LEAST_INPUTS}"));
+    }
+    println!("{compared} inputs compared, no difference");
+}
+
+pub fn fail(message: &str) -> ! {
+    println!("FAILED: {message}");
+    exit(1)
+}
+
+/// What a function answered so far: for each refusal number, 0 if answered, how often and with which places.
+struct Tally {
+    function: &'static str,
+    numbers: &'static [u64],
+    given: BTreeMap<u64, (u64, BTreeSet<u64>)>,
+    inputs: u64,
+}
+
+impl Tally {
+    /// `numbers`: those that the function can give, 0 if it can answer.
+    fn new(function: &'static str, numbers: &'static [u64]) -> Tally {
+        Tally { function, numbers, given: BTreeMap::new(), inputs: 0 }
+    }
+
+    fn compare<A: Shown>(&mut self, library: A, peer: A, input: impl FnOnce() -> String) {
+        if library != peer {
+            fail(&format!("{}\n  input   {}\n  library {library:?}\n  peer    {peer:?}", self.function, input()));
+        }
+        self.count(&library);
+    }
+
+    fn count<A: Shown>(&mut self, answer: &A) {
+        let refusal = answer.refusal();
+        let (times, places) = self.given.entry(refusal.number).or_default();
+        *times += 1;
+        places.insert(refusal.place);
+        self.inputs += 1;
+    }
+
+    /// Compares lent memory after a call with what it must hold.
+    fn compare_bytes(&self, library: &[u8], peer: &[u8], input: impl FnOnce() -> String) {
+        if library != peer {
+            fail(&format!(
+                "{}: bytes of a lent buffer\n  input   {}\n  library {}\n  peer    {}",
+                self.function,
+                input(),
+                library.escape_ascii(),
+                peer.escape_ascii()
+            ));
+        }
+    }
+
+    /// Prints the line of the function; fails where a number that it can give never came.
+    fn finish(self) -> u64 {
+        let answered = self.given.get(&0).map_or(0, |(times, _)| *times);
+        print!("{:<29}{:>8} inputs, answered {answered}", self.function, self.inputs);
+        for (number, (times, places)) in self.given.iter().filter(|(&number, _)| number > 0) {
+            print!(", {number}: {times}");
+            if places.len() > 1 {
+                print!(" ({} places)", places.len());
+            }
+        }
+        println!();
+        if let Some(number) = self.numbers.iter().find(|number| !self.given.contains_key(number)) {
+            fail(&format!("{}: no input had refusal {number} (0: an answer)", self.function));
+        }
+        self.inputs
+    }
+}

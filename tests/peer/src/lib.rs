@@ -1,0 +1,14 @@
+//! An independent reading of document 01: every figure of the bench calculator, written from the paper.
+//! Temperatures are hundredths of a degree, limits hundredths of a volume percent, pressures Pa.
+
+pub mod analyser;
+pub mod blend;
+pub mod book;
+pub mod curve;
+pub mod flash;
+pub mod formula;
+pub mod grammar;
+pub mod limits;
+pub mod refusal;
+pub mod scan;
+pub mod sheet;
