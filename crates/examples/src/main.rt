@@ -12,6 +12,7 @@ use refusal::Refusal;
 use refusal::Temperature;
 
 mod readings;
+mod sources;
 
 // The number of worked examples. Each has the answer that is printed for it.
 fn worked_examples() -> u64
@@ -134,6 +135,13 @@ fn show_hundredths(n: u64) {
     io::print_decimal(STDOUT_FILENO, exact.remainder);
 }
 
+fn show_degrees(temperature: i64) {
+    if temperature < 0 {
+        show(b"-");
+    }
+    show_hundredths(rounding::size(temperature));
+}
+
 fn show_limits(limits: Limits) {
     let refusal = limits.refusal;
     if 0 < refusal.number {
@@ -185,7 +193,9 @@ fn show_fuel(text: &[u8]) {
 
 fn show_fuel_at(text: &[u8], temperature: i64) {
     show(text);
-    show(b" warm: ");
+    show(b" at ");
+    show_degrees(temperature);
+    show(b": ");
     show_limits(jaloosewin::jlw_fuel_limits_at(text, temperature));
     show(b"  in g/m3: ");
     show_limits(jaloosewin::jlw_mass_concentration(text, temperature));
@@ -276,10 +286,7 @@ fn show_temperature(name: &[u8], answer: Temperature) {
         show_refusal(refusal);
         return;
     }
-    if answer.value < 0 {
-        show(b"-");
-    }
-    show_hundredths(rounding::size(answer.value));
+    show_degrees(answer.value);
     show(b"\n");
 }
 
@@ -383,4 +390,5 @@ fn main() {
     flash_points();
     curves();
     readings::show_readings();
+    sources::show_sources();
 }

@@ -1,0 +1,48 @@
+// What the source documents print for these formulas, beside what the rules here give; docs/DECISIONS.md says why some differ.
+use crate::bonds_of;
+use crate::fuel;
+use crate::show;
+use crate::show_bonds;
+use crate::show_fuel;
+use crate::show_hundredths;
+use crate::show_limits;
+
+// Source document 000: ethylene glycol's stoichiometric fraction, toluene's flash point.
+fn show_handbook() {
+    show(b"000, C2H6O2, printed 7.63 %: ");
+    let fraction = jaloosewin::jlw_stoichiometric_fraction(b"C2H6O2");
+    show_hundredths(fraction.value);
+    show(b"\n");
+    show_bonds(
+        b"000, toluene, printed 4.86",
+        1,
+        fuel(7, 8, 0),
+        bonds_of(1, 6, 8, 0, 0),
+        11060,
+    );
+}
+
+// Source document 003, problem 7: 30 % propane and 70 % ethane.
+fn show_problem_7() {
+    show(b"003, problem 7, printed 2.08 and 12.03 %, ");
+    show_fuel(b"C3H8");
+    show(b"003, problem 7, printed 2.85 and 16.71 %, ");
+    show_fuel(b"C2H6");
+    show(b"003, problem 7, printed 2.57 and 14.97 %, both: ");
+    let first = jaloosewin::jlw_add_fuel(0, 0, 0, b"C3H8", 30).blend;
+    let both = jaloosewin::jlw_add_fuel(first.total, first.lower, first.upper, b"C2H6", 70).blend;
+    show_limits(jaloosewin::jlw_blend_limits(both.total, both.lower, both.upper));
+}
+
+// Source document 003, problem 8: methane at 134.00.
+fn show_problem_8() {
+    show(b"003, problem 8, printed 19.88 and 148.4 g/m3: ");
+    show_limits(jaloosewin::jlw_mass_concentration(b"CH4", 13400));
+}
+
+pub fn show_sources() {
+    show(b"\nsource documents\n");
+    show_handbook();
+    show_problem_7();
+    show_problem_8();
+}
