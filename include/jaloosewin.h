@@ -48,22 +48,27 @@ jlw_written jlw_write_formula(uint64_t c, uint64_t h, uint64_t o, uint64_t n, ui
 /* A fuel is its formula text. Its refusals, in this order, wherever one is given: 1 and 2 of the reader; 3, an element that is not admitted, or
    carbon missing: place the lowest element at fault; 4, beta below 1/2. Temperatures are hundredths of a degree Celsius. */
 
-/* The oxygen coefficient beta in quarters. Admitted: carbon present, no Si. */
+/* The oxygen coefficient beta in quarters: CH4 8. Admitted: carbon present, no Si. */
 jlw_figure jlw_oxygen_coefficient(const uint8_t *text, size_t text_len);
 
-/* The stoichiometric fraction in 0.01 %; refusals as for beta. */
+/* The stoichiometric fraction in 0.01 %: CH4 936; refusals as for beta. */
 jlw_figure jlw_stoichiometric_fraction(const uint8_t *text, size_t text_len);
 
-/* Both flammability limits of a fuel in 0.01 volume percent. Admitted: carbon present, only C, H, O, N and at most one Cl.
-   Where no temperature is named, 25.00 is meant; otherwise refusal 10 outside 0.00 to 200.00, after the fuel's. */
+/* Both flammability limits of a fuel in 0.01 volume percent: CH4 454 and 2732. No temperature is named, 25.00 is meant.
+   Admitted: carbon present, only C, H, O, N and at most one Cl. */
 jlw_limits jlw_fuel_limits(const uint8_t *text, size_t text_len);
+
+/* The same at a temperature. Refusal 10 outside 0.00 to 200.00, after the fuel's. */
 jlw_limits jlw_fuel_limits_at(const uint8_t *text, size_t text_len, int64_t temperature);
 
 /* The mass concentrations of a fuel at both limits in 0.01 g/m3; refusals as for limits at a temperature. */
 jlw_limits jlw_mass_concentration(const uint8_t *text, size_t text_len, int64_t temperature);
 
 /* Blends. A blend goes in as its three numbers and comes back as a struct; with a refusal it comes back as given (of a joining, the first).
-   Refusal 28 comes before all others: a blend that no adding and joining from empty blends could have made (of a joining, place 1 if only the second is). */
+   Refusal 28 comes before all others: a blend whose numbers are out of the bounds that adding and joining from empty blends keep (of a joining, place 1 if only
+   the second is). A blend that began empty and went through these functions alone is never out of bounds. */
+
+/* A blend that took in nothing: three zeros. */
 jlw_blend jlw_empty_blend(void);
 
 /* Adds whole parts of a fuel. Refusals: 28, those of the fuel as for limits, 8 where the total would exceed 1,000,000. */
@@ -72,8 +77,11 @@ jlw_blended jlw_add_fuel(uint64_t total, uint64_t lower, uint64_t upper, const u
 /* Joins a second blend into a first. Refusals: 28, 8. */
 jlw_blended jlw_join_blends(uint64_t total, uint64_t lower, uint64_t upper, uint64_t other_total, uint64_t other_lower, uint64_t other_upper);
 
-/* Both limits of a blend by Le Chatelier's rule over all that it took in, in 0.01 volume percent. Refusals: 28, 9 where the total is 0, 10. */
+/* Both limits of a blend by Le Chatelier's rule over all that it took in, in 0.01 volume percent. No temperature is named, 25.00 is meant.
+   Refusals: 28, 9 where the total is 0. */
 jlw_limits jlw_blend_limits(uint64_t total, uint64_t lower, uint64_t upper);
+
+/* The same at a temperature. Refusals: 28, 9, 10 outside 0.00 to 200.00. */
 jlw_limits jlw_blend_limits_at(uint64_t total, uint64_t lower, uint64_t upper, int64_t temperature);
 
 #ifdef __cplusplus

@@ -14,6 +14,9 @@ typedef struct { uint64_t count[22]; } jlt_bonds;
 /* A temperature, or a refusal and 0. */
 typedef struct { jlw_refusal refusal; int64_t value; } jlt_temperature;
 
+JLW_STATIC_ASSERT(sizeof(jlt_bonds) == 176, "jlt_bonds");
+JLW_STATIC_ASSERT(sizeof(jlt_temperature) == 24 && offsetof(jlt_temperature, value) == 16, "jlt_temperature");
+
 /* Formula (33): method 1 closed cup, 2 open cup, 3 fire point. Refusals 16, 2, 5, 6, 7. */
 jlt_temperature jlt_flash_by_bonds(uint64_t method, jlw_atoms atoms, jlt_bonds bonds, int64_t boiling);
 
