@@ -1,14 +1,15 @@
 -- The answers of the functions on a blend, test by test.
 use mathlib.Core.Path.{_≡_}
-use mathlib.Core.Bool.{true, false}
+use mathlib.Core.Bool.{true, false, not}
 use mathlib.Core.Option.{Option}
 use Prim.Native.Nat.{ℕ, _+_, _≤_, _<_}
 use native.Mathlib.Omega.{arith}
 use borrow.Author.Tests.{lt-ltb, le-ltb, eq-eqb, ne-eqb}
+use lib.Dec.{ltb}
 use lib.IntN.{ℤ, natAbs}
 use Rattle.refusal.specs.declared.Figure.{Figure}
-use Rattle.refusal.specs.Outcome.{Outcome, refused, answered, refusal, shownFigure, Numbered}
-use Rattle.refusal.proofs.Outcomes.{figure-refused, figure-answered, andThen-numbered}
+use Rattle.refusal.specs.Outcome.{Outcome, refused, answered, refusal, refuse, andThen, shownFigure, Numbered}
+use Rattle.refusal.proofs.Outcomes.{figure-refused, figure-answered, refuse-numbered, andThen-numbered}
 use Rattle.formula.specs.Reading.{reading}
 use Rattle.formula.proofs.Texts.{reading-numbered}
 use Rattle.oxygen.specs.declared.Purpose.the-variants.{GasLimits}
@@ -44,6 +45,14 @@ fuel-numbered (counts a) = admission-numbered GasLimits a
 fuel-numbered (text t) = andThen-numbered (reading t) (admission GasLimits) (reading-numbered t) (admission-numbered GasLimits)
 
 module _ (b : Blend) (f : Fuel) (v : ℕ) where
+  -- its number tells a refusal
+  pub adding-numbered : Numbered (adding b f v)
+  unfolding adding taking
+  adding-numbered =
+      let then : ℕ → Outcome Blend = λ q. refuse 8 0 (ltb 1000000 (b .total + v)) (answered (withFuel b v q)) in
+      refuse-numbered 28 0 (not (within b)) (andThen (fuelBeta f) then) (omega arith)
+      (andThen-numbered (fuelBeta f) then (fuel-numbered f) (λ q. refuse-numbered 8 0 (ltb 1000000 (b .total + v)) (answered (withFuel b v q)) (omega arith) tt))
+
   pub add-outside : within b ≡ false → shownBlend b (refused (refusal 28 0)) ≡ shownBlend b (adding b f v)
   unfolding adding
   add-outside e = rw e

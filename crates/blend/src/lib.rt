@@ -147,7 +147,8 @@ fn take(b: Blend, fuel: Figure, parts: u64) -> Blended
     changed(with_fuel(b, parts, fuel.value))
 }
 
-fn no_limits(number: u64, place: u64) -> Limits
+// A refusal of limits.
+pub fn no_limits(number: u64, place: u64) -> Limits
     ensures { λ r. ⌜ r ≡ shownLimits (refused (refusal number place)) ⌝ }
 {
     Limits {

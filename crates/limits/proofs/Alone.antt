@@ -5,11 +5,10 @@ use mathlib.Core.List.{List, [], _∷_}
 use mathlib.Core.Option.{Option}
 use Prim.Native.Nat.{ℕ, _+_, _*_, _-_, _≤_, _<_}
 use native.Mathlib.Omega.{arith}
-use lib.Dec.{ltb}
 use lib.IntN.{ℤ, natAbs}
-use Rattle.refusal.specs.Numbers.{totalTooLarge, gasTemperatureOutside, blendOutOfBounds}
-use Rattle.refusal.specs.Outcome.{Outcome, refused, answered, refusal, refuse, valueOf, andThen, Numbered}
-use Rattle.refusal.proofs.Outcomes.{told-refused, told-answered, refuse-numbered, andThen-numbered}
+use Rattle.refusal.specs.Numbers.{gasTemperatureOutside}
+use Rattle.refusal.specs.Outcome.{Outcome, refused, answered, refusal, refuse, valueOf, andThen}
+use Rattle.refusal.proofs.Outcomes.{told-refused, told-answered}
 use Rattle.rounding.proofs.Rounding.{round-le}
 use Rattle.rounding.proofs.Fractions.{is-same}
 use Rattle.formula.specs.declared.Atoms.{Atoms}
@@ -24,7 +23,7 @@ use Rattle.blend.specs.declared.Blended.{Blended}
 use Rattle.blend.specs.declared.Limits.{Limits}
 use Rattle.blend.specs.Temperature.{meant, gasTemperature}
 use Rattle.blend.specs.Fuel.{Fuel, counts, text, fuelAtoms, fuelBeta}
-use Rattle.blend.specs.Blend.{emptyBlend, within, withFuel, taking, adding, asking, blendLimit, shownBlend, shownLimits}
+use Rattle.blend.specs.Blend.{emptyBlend, adding, asking, blendLimit, shownBlend, shownLimits}
 use Rattle.blend.specs.Calls.{add, changed, put, answerTo, next, after}
 use Rattle.blend.specs.Model.{Entries, sum, total, limitFigure, limitAt, modelAdds, modelAsks}
 use Rattle.blend.proofs.Weights.{limit-is, weight-positive}
@@ -33,7 +32,7 @@ use Rattle.blend.proofs.Sums.{blendOf}
 use Rattle.blend.proofs.LeChatelier.{same-at, le-chatelier-is, blend-limit}
 use Rattle.blend.proofs.Theorem.{claims}
 use Rattle.blend.proofs.Figures.{lower-figure, upper-figure}
-use Rattle.blend.proofs.Answers.{fuel-numbered}
+use Rattle.blend.proofs.Answers.{adding-numbered}
 use Rattle.limits.specs.FuelLimits.{fuelFigure, bothFigures, fuelLimits, AsBlend}
 
 -- LE CHATELIER over one entry of 1 part
@@ -90,13 +89,6 @@ module _ (f : Fuel) (t : Option ℤ) where
       let both = same-asked (adding emptyBlend f 1) (modelAdds [] f 1) (claims [] .next (add 0 f 1)) (claims (add 0 f 1 ∷ []) .by-le-chatelier 0 t) in
       record { of-blend = by-model ∙ sym both; of-model = by-model }
 
-adding-numbered : (f : Fuel) → Numbered (adding emptyBlend f 1)
-unfolding adding taking
-adding-numbered f =
-    let over : ℕ → Outcome Blend = λ q. refuse totalTooLarge 0 (ltb 1000000 (emptyBlend .total + 1)) (answered (withFuel emptyBlend 1 q)) in
-    refuse-numbered blendOutOfBounds 0 (not (within emptyBlend)) (andThen (fuelBeta f) over) (omega arith)
-    (andThen-numbered (fuelBeta f) over (fuel-numbered f) (λ q. refuse-numbered totalTooLarge 0 (ltb 1000000 (emptyBlend .total + 1)) (answered (withFuel emptyBlend 1 q)) (omega arith) tt))
-
 -- THE ANSWERS, where the blend was answered as `alone`
 module _ (f : Fuel) (t : Option ℤ) (alone : Blended) (e : alone ≡ shownBlend emptyBlend (adding emptyBlend f 1)) where
   asked : Outcome Blend → Limits
@@ -109,7 +101,7 @@ module _ (f : Fuel) (t : Option ℤ) (alone : Blended) (e : alone ≡ shownBlend
   pub alone-answered : alone .refusal .number ≤ 0 → shownLimits (asking (alone .blend) t) ≡ shownLimits (fuelLimits f t)
   unfolding asked
   alone-answered l =
-      rw e (ap asked (sym (told-answered emptyBlend (adding emptyBlend f 1) (adding-numbered f) (omega (arith, rw e at l)))))
+      rw e (ap asked (sym (told-answered emptyBlend (adding emptyBlend f 1) (adding-numbered emptyBlend f 1) (omega (arith, rw e at l)))))
       ∙ ap shownLimits (sym (as-blend f t .of-blend))
 
 -- A TEXT is asked as the counts that it reads to

@@ -14,21 +14,12 @@ use blend::USUAL_TEMPERATURE;
 use blend::add_fuel;
 use blend::blend_limits_at;
 use blend::empty_blend;
+use blend::no_limits;
 use formula::Atoms;
 use formula::read_formula;
 use refusal::Refusal;
 use rounding::round_div;
 use rounding::size;
-
-fn refuse(number: u64, place: u64) -> Limits
-    ensures { λ r. ⌜ r ≡ shownLimits (refused (refusal number place)) ⌝ }
-{
-    Limits {
-        refusal: Refusal { number, place },
-        lower: 0,
-        upper: 0,
-    }
-}
 
 // Both limits of a fuel, by its atom counts, at a temperature in hundredths of a degree. Refusals 2, 3, 4, 10.
 pub fn fuel_limits_at(fuel: Atoms, temperature: i64) -> Limits
@@ -38,7 +29,7 @@ pub fn fuel_limits_at(fuel: Atoms, temperature: i64) -> Limits
     let alone = add_fuel(empty_blend(), fuel, 1);
     let declined = alone.refusal;
     if 0 < declined.number {
-        return refuse(declined.number, declined.place);
+        return no_limits(declined.number, declined.place);
     }
     let blend = alone.blend;
     blend_limits_at(blend, temperature)
@@ -60,7 +51,7 @@ pub fn fuel_limits_of_text_at(text: &[u8], temperature: i64) -> Limits
     let read = read_formula(text);
     let declined = read.refusal;
     if 0 < declined.number {
-        return refuse(declined.number, declined.place);
+        return no_limits(declined.number, declined.place);
     }
     let atoms = read.atoms;
     fuel_limits_at(atoms, temperature)
@@ -122,7 +113,7 @@ pub fn mass_concentration_of_text(text: &[u8], temperature: i64) -> Limits
     let read = read_formula(text);
     let declined = read.refusal;
     if 0 < declined.number {
-        return refuse(declined.number, declined.place);
+        return no_limits(declined.number, declined.place);
     }
     let atoms = read.atoms;
     mass_concentration(atoms, temperature)

@@ -1,17 +1,16 @@
 -- Laws of a sheet's records: what makes one good, and how they are added in order.
 use mathlib.Core.Path.{_≡_, sym, ap, _∙_}
-use mathlib.Core.Bool.{true, false, not}
+use mathlib.Core.Bool.{true, false}
 use mathlib.Core.List.{List, [], _∷_}
 use mathlib.Core.Option.{some, none}
 use Prim.Native.Nat.{ℕ, suc, _+_, _-_, _≤_, _<_}
 use native.Mathlib.Numerals.{add-one}
 use native.Mathlib.Omega.{arith}
-use lib.Dec.{ltb}
 use lib.ListN.{length, getD, take, drop}
-use Rattle.refusal.specs.Outcome.{Outcome, refused, answered, refusal, refuse, refusalOf, valueOf, andThen, Numbered}
+use Rattle.refusal.specs.Outcome.{Outcome, refused, answered, refusal, refusalOf, valueOf, andThen, Numbered}
 use Rattle.refusal.specs.Lowest.{orZero}
 use Rattle.refusal.proofs.Lowest.{found-some}
-use Rattle.refusal.proofs.Outcomes.{refuse-numbered, andThen-numbered, told-refused, told-answered}
+use Rattle.refusal.proofs.Outcomes.{told-refused, told-answered}
 use Rattle.text.specs.Lines.{line, lines, field, fields, all, plain}
 use Rattle.text.specs.Sheet.{headed, records, firstBad}
 use Rattle.text.proofs.Lines.{tail, lines-none, line-within, line-next}
@@ -20,9 +19,9 @@ use Rattle.text.proofs.Sheets.{records-from, headed-facts, all-good, bad-zero}
 use Rattle.blend.specs.declared.Blend.{Blend}
 use Rattle.blend.specs.declared.Blended.{Blended}
 use Rattle.blend.specs.declared.Limits.{Limits}
-use Rattle.blend.specs.Fuel.{Fuel, text, fuelBeta}
-use Rattle.blend.specs.Blend.{emptyBlend, within, withFuel, adding, taking, asking, shownBlend, shownLimits}
-use Rattle.blend.proofs.Answers.{fuel-numbered}
+use Rattle.blend.specs.Fuel.{text}
+use Rattle.blend.specs.Blend.{emptyBlend, adding, asking, shownBlend, shownLimits}
+use Rattle.blend.proofs.Answers.{adding-numbered}
 use Rattle.sheet.specs.Mixture.{header, isParts, goodMixture, formulaOf, spelledFrom, partsOf, atRecord, addingAll, sheetAnswer}
 use Rattle.sheet.proofs.Parts.{parts-single}
 
@@ -58,14 +57,7 @@ module _ (l : List ℕ) where
         → r ≡ shownBlend b (adding b (text (formulaOf l)) (partsOf l))
     record-added b v r f h = h ∙ rw (first-is, f, rest-is)
 
--- ADDING. Its number tells a refusal.
-adding-numbered : (b : Blend) (f : Fuel) (v : ℕ) → Numbered (adding b f v)
-unfolding adding taking
-adding-numbered b f v =
-    let then : ℕ → Outcome Blend = λ q. refuse 8 0 (ltb 1000000 (b .total + v)) (answered (withFuel b v q)) in
-    refuse-numbered 28 0 (not (within b)) (andThen (fuelBeta f) then) (omega arith)
-    (andThen-numbered (fuelBeta f) then (fuel-numbered f) (λ q. refuse-numbered 8 0 (ltb 1000000 (b .total + v)) (answered (withFuel b v q)) (omega arith) tt))
-
+-- ADDING a record
 abbrev adds : Blend → List ℕ → Outcome Blend
 adds b l = adding b (text (formulaOf l)) (partsOf l)
 

@@ -19,6 +19,7 @@ use blend::Limits;
 use blend::add_fuel_text;
 use blend::blend_limits;
 use blend::empty_blend;
+use blend::no_limits;
 use refusal::Refusal;
 use text::field_length;
 use text::is_digit_from;
@@ -163,16 +164,6 @@ fn refused_at(number: u64, place: u64) -> Blended
     Blended {
         refusal: Refusal { number, place },
         blend: empty_blend(),
-    }
-}
-
-fn no_limits(number: u64, place: u64) -> Limits
-    ensures { λ r. ⌜ r ≡ shownLimits (refused (refusal number place)) ⌝ }
-{
-    Limits {
-        refusal: Refusal { number, place },
-        lower: 0,
-        upper: 0,
     }
 }
 

@@ -20,13 +20,13 @@ empty-blend-requires c κs = search needs
 add-fuel-requires : tie.Need-add-fuel-requires
 add-fuel-requires c κs = search needs
 
-refuse-requires : tie.Need-refuse-requires
-refuse-requires c κs = search needs
+no-limits-requires : tie.Need-no-limits-requires
+no-limits-requires c κs = search needs
 
 returns : tie.Need-returns
 returns c =
     let a = c .before .before .before .before in
-    (c .refuse .ensures ∙ alone-refused (counts _) (some _) _ (made a) (omega arith), as-blend _ _)
+    (c .no-limits .ensures ∙ alone-refused (counts _) (some _) _ (made a) (omega arith), as-blend _ _)
 
 blend-limits-at-requires : tie.Need-blend-limits-at-requires
 blend-limits-at-requires c κs = search needs
@@ -43,7 +43,7 @@ fuel-limits-at-spec =
     (tie.spec
     empty-blend-requires
     add-fuel-requires
-    refuse-requires
+    no-limits-requires
     returns
     blend-limits-at-requires
     returns-2)

@@ -15,14 +15,14 @@ use Rattle.limits.proofs.fuel_limits_of_text_at.Tie as tie
 read-formula-requires : tie.Need-read-formula-requires
 read-formula-requires c κs = search needs
 
-refuse-requires : tie.Need-refuse-requires
-refuse-requires c κs = search needs
+no-limits-requires : tie.Need-no-limits-requires
+no-limits-requires c κs = search needs
 
 returns : tie.Need-returns
 returns c =
     let r = c .before .before .before .before in
     let z = r .before .before .args .temperature in
-    (c .refuse .ensures ∙ text-refused shownLimits (λ a. fuelLimits (counts a) (some z)) _ _ (r .read-formula .ensures .0) (omega arith) ∙ ap shownLimits (limits-of-text _ (some z)), as-blend _ _)
+    (c .no-limits .ensures ∙ text-refused shownLimits (λ a. fuelLimits (counts a) (some z)) _ _ (r .read-formula .ensures .0) (omega arith) ∙ ap shownLimits (limits-of-text _ (some z)), as-blend _ _)
 
 fuel-limits-at-requires : tie.Need-fuel-limits-at-requires
 fuel-limits-at-requires c κs = search needs
@@ -37,4 +37,4 @@ returns-2 c =
 pub fuel-limits-of-text-at-spec : {M : Type 1} → statement M
 fuel-limits-of-text-at-spec =
     tie.close
-    (tie.spec read-formula-requires refuse-requires returns fuel-limits-at-requires returns-2)
+    (tie.spec read-formula-requires no-limits-requires returns fuel-limits-at-requires returns-2)

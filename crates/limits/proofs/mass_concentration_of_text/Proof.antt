@@ -14,14 +14,14 @@ use Rattle.limits.proofs.mass_concentration_of_text.Tie as tie
 read-formula-requires : tie.Need-read-formula-requires
 read-formula-requires c κs = search needs
 
-refuse-requires : tie.Need-refuse-requires
-refuse-requires c κs = search needs
+no-limits-requires : tie.Need-no-limits-requires
+no-limits-requires c κs = search needs
 
 returns : tie.Need-returns
 returns c =
     let r = c .before .before .before .before in
     let z = r .before .before .args .temperature in
-    c .refuse .ensures ∙ text-refused shownLimits (λ a. massConcentration (counts a) z) _ _ (r .read-formula .ensures .0) (omega arith) ∙ ap shownLimits (concentration-of-text _ z)
+    c .no-limits .ensures ∙ text-refused shownLimits (λ a. massConcentration (counts a) z) _ _ (r .read-formula .ensures .0) (omega arith) ∙ ap shownLimits (concentration-of-text _ z)
 
 mass-concentration-requires : tie.Need-mass-concentration-requires
 mass-concentration-requires c κs = search needs
@@ -36,4 +36,4 @@ returns-2 c =
 pub mass-concentration-of-text-spec : {M : Type 1} → statement M
 mass-concentration-of-text-spec =
     tie.close
-    (tie.spec read-formula-requires refuse-requires returns mass-concentration-requires returns-2)
+    (tie.spec read-formula-requires no-limits-requires returns mass-concentration-requires returns-2)
