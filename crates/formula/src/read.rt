@@ -1,9 +1,11 @@
 // The reader: a formula reader calls an item reader, which calls the formula reader on a bracket, one level less deep.
 ghost use mathlib.Core.Path.{_≡_};
-ghost use mathlib.Core.Bool.{true, false};
+ghost use mathlib.Core.Bool.{true, false, cond};
 ghost use Prim.Native.Nat.{_+_, _*_, _≤_};
 ghost use lib.ListN.{length, drop};
+ghost use lib.Dec.{eqb};
 ghost use Rattle.refusal.specs.Outcome.{refused, refusal};
+ghost use Rattle.formula.specs.declared.read.Symbol.the-variants.{Two};
 ghost use Rattle.formula.specs.Reader.{symbolOf, multipleOf, multipleAt, ends};
 ghost use Rattle.formula.specs.Reading.{shown, formulaRead, ByGrammar};
 ghost use Rattle.formula.specs.Held.{cap, reading, WithElement, WithGroup, CountedElement, CountedGroup, ElementSays, ClosedSays, ItemSays, FormulaSays, JudgedSays};
@@ -44,30 +46,25 @@ pub struct Reading {
     pub counts: [u64; 10],
 }
 
+// The symbol of two bytes where the second, c, is the letter that e has there, and the other where it is not.
+fn two_or(other: Symbol, c: u8, letter: u8, e: Element) -> Symbol
+    ensures { λ r. ⌜ r ≡ cond (eqb c letter) (Two e) other ⌝ }
+{
+    if c == letter { Symbol::Two(e) } else { other }
+}
+
 fn symbol_of(b: u8, c: u8) -> Symbol
     ensures { λ r. ⌜ r ≡ symbolOf b c ⌝ }
 {
     match b {
-        b'C' => if c == b'l' {
-            Symbol::Two(Element::Chlorine)
-        } else {
-            Symbol::One(Element::Carbon)
-        },
+        b'C' => two_or(Symbol::One(Element::Carbon), c, b'l', Element::Chlorine),
         b'H' => Symbol::One(Element::Hydrogen),
         b'O' => Symbol::One(Element::Oxygen),
         b'N' => Symbol::One(Element::Nitrogen),
-        b'S' => if c == b'i' {
-            Symbol::Two(Element::Silicon)
-        } else {
-            Symbol::One(Element::Sulfur)
-        },
+        b'S' => two_or(Symbol::One(Element::Sulfur), c, b'i', Element::Silicon),
         b'P' => Symbol::One(Element::Phosphorus),
         b'F' => Symbol::One(Element::Fluorine),
-        b'B' => if c == b'r' {
-            Symbol::Two(Element::Bromine)
-        } else {
-            Symbol::Half
-        },
+        b'B' => two_or(Symbol::Half, c, b'r', Element::Bromine),
         _ => Symbol::Nothing,
     }
 }
