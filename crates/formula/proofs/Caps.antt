@@ -64,21 +64,23 @@ holds-element a e n k v p q h ha = record { ten = length-set a (k - 1) v ∙ ha 
 -- the loop that raises each count of a by n times that of b, and has come to the index i
 pub record Raised (a b : List ℕ) (n : ℕ) (sum : List ℕ) (i : ℕ) : Type 0 where
   pub to : i ≤ 10
-  pub ten : length sum ≡ 10
-  pub each : (k : ℕ) → k < i → getD sum k 0 ≡ cap (getD a k 0 + getD b k 0 * n)
+  pub size : length sum ≡ length a
+  pub each : length a ≡ 10 → (k : ℕ) → k < i → getD sum k 0 ≡ cap (getD a k 0 + getD b k 0 * n)
+  pub later : (k : ℕ) → i ≤ k → getD sum k 0 ≡ getD a k 0
 
 module _ {a b sum : List ℕ} {n i : ℕ} (r : Raised a b n sum i) where
-  pub raised-more : (v : ℕ) → i < 10 → v ≡ cap (getD a i 0 + getD b i 0 * n) → Raised a b n (set sum i v) (i + 1)
+  pub raised-more : (v : ℕ) → i < 10 → v ≡ cap (getD sum i 0 + getD b i 0 * n) → Raised a b n (set sum i v) (i + 1)
   raised-more v l e = record {
     to = omega arith;
-    ten = length-set sum i v ∙ r .ten;
-    each = below-more (λ (k : ℕ). getD (set sum i v) k 0 ≡ cap (getD a k 0 + getD b k 0 * n)) i
-        (λ k b. getD-set-other sum i k v 0 (omega arith) ∙ r .each k b)
-        (getD-set-same sum i v 0 (omega (arith, r .ten)) ∙ e);
+    size = length-set sum i v ∙ r .size;
+    each = λ ten. below-more (λ (k : ℕ). getD (set sum i v) k 0 ≡ cap (getD a k 0 + getD b k 0 * n)) i
+        (λ k b. getD-set-other sum i k v 0 (omega arith) ∙ r .each ten k b)
+        (getD-set-same sum i v 0 (omega (arith, r .size)) ∙ e ∙ rw (r .later i (omega arith)));
+    later = λ k l. getD-set-other sum i k v 0 (omega arith) ∙ r .later k (omega arith);
   }
 
   pub holds-group : 10 ≤ i → WithGroup a b n sum
   holds-group l h m ha hb = record {
-    ten = r .ten;
-    each = λ e. r .each (number e - 1) (omega (arith, number-from e, number-to e)) ∙ rw (ha .each, hb .each) (omega (arith, cap-factor (h e) (m e) n));
+    ten = r .size ∙ ha .ten;
+    each = λ e. r .each (ha .ten) (number e - 1) (omega (arith, number-from e, number-to e)) ∙ rw (ha .each, hb .each) (omega (arith, cap-factor (h e) (m e) n));
   }

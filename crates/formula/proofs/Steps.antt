@@ -11,9 +11,11 @@ use lib.Seq.{getD-drop, drop-drop}
 use Rattle.refusal.proofs.Tests.{never}
 use Rattle.formula.specs.declared.read.Reading.{Reading}
 use Rattle.formula.specs.Elements.{Totals, nothing, plus}
-use Rattle.formula.specs.Reader.{Result, ok, stuck, at, ends, adding, then, items, closing, readItem, readItems}
+use Rattle.formula.specs.declared.read.Symbol.the-variants.{Nothing}
+use Rattle.formula.specs.Reader.{Result, ok, stuck, symbolOf, at, ends, adding, then, items, closing, readItem, readItems}
 use Rattle.formula.specs.Held.{Holds, Found, Says, CountedGroup, ElementSays, ClosedSays, ItemSays, FormulaSays}
 use Rattle.formula.proofs.Caps.{holds-nothing, holds-from, holds-assoc}
+use Rattle.formula.proofs.Positions.{symbolAt, element-none}
 use Rattle.formula.proofs.Unfold.{item-other, item-open, then-ends, then-goes}
 
 says-within : (s : List ℕ) (from : ℕ) (h : Totals) (x : Result) (r : Reading) → Says s from h x r → r .at ≤ length s
@@ -34,9 +36,9 @@ says-next s p (stuck t) r f = f
 
 -- THE END OF A GROUP, whose formula was read as `inner`: stuck in it, at the end of the text, or at the bracket
 module _ (s : List ℕ) (inner : Reading) (acc : List ℕ) where
-  pub closed-stuck : inner .ok ≡ false → ClosedSays s inner acc inner
-  closed-stuck q from h (ok m t) ha p = never (inner .ok) (p .good) q
-  closed-stuck q from h (stuck t) ha p = p
+  pub closed-stuck : (r : Reading) → inner .ok ≡ false → (r .ok ≡ false) × (r .at ≡ inner .at) → ClosedSays s inner acc r
+  closed-stuck r q (g, at) from h (ok m t) ha p = never (inner .ok) (p .good) q
+  closed-stuck r q (g, at) from h (stuck t) ha p = record { good = g; within = rw at (p .within); left = rw at (p .left) }
 
   pub closed-end : (r : Reading) → inner .ok ≡ true → inner .at ≡ length s → (r .ok ≡ false) × (r .at ≡ inner .at) → ClosedSays s inner acc r
   closed-end r q e (g, at) from h (ok m []) ha p = record { good = g; within = omega arith; left = p .left ∙ ap (λ (k : ℕ). drop k s) (sym at) }
@@ -115,20 +117,20 @@ module _ {s : List ℕ} {from depth at : ℕ} {acc : List ℕ} (g : Going s from
       )
       go (stuck t) f k l w = never (r .ok) q (f .good)
 
--- AN ITEM: an element, since no group may be nested here or since no bracket stands here; or a group
+-- AN ITEM, by the byte b there: an element; stuck at the bracket of a group that may not be nested here; or a group
 module _ (s acc : List ℕ) (p : ℕ) (r : Reading) where
-  pub item-deepest : (depth : ℕ) → depth ≡ 0 → ElementSays s p acc r → ItemSays s p depth acc r
-  unfolding readItem
-  item-deepest zero e k = k
-  item-deepest (suc d) e k = absurd (omega arith)
-
-  -- by the byte b there
   module _ (depth b : ℕ) (e : b ≡ getD s p 0) where
     first : at (drop p s) 0 ≡ b
     first = getD-drop p s 0 0 ∙ rw (add-zero, e)
 
     pub item-element : (b ≡ 40 → ⊥) → ElementSays s p acc r → ItemSays s p depth acc r
     item-element n k h ha = rw (item-other depth (drop p s) (rw first (ne-eqb b 40 n))) (k h ha)
+
+    pub item-deepest : b ≡ 40 → depth ≡ 0 → p ≤ length s → (r .ok ≡ false) × (r .at ≡ p) → ItemSays s p depth acc r
+    unfolding readItem symbolOf
+    item-deepest q n l k =
+        let none : symbolAt (drop p s) ≡ Nothing = rw (first, q) in
+        rw n (element-none s p acc r l none k)
 
     group-read : b ≡ 40 → (depth ≡ 0 → ⊥) → readItem depth (drop p s) ≡ closing (readItems (depth - 1) (drop (p + 1) s))
     group-read q n =

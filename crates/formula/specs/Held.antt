@@ -7,6 +7,7 @@ use lib.ListN.{length, drop, getD}
 use Rattle.formula.specs.declared.Element.{Element}
 use Rattle.formula.specs.declared.Atoms.{Atoms}
 use Rattle.formula.specs.declared.FormulaRead.{FormulaRead}
+use Rattle.formula.specs.declared.read.Step.{Step}
 use Rattle.formula.specs.declared.read.Reading.{Reading}
 use Rattle.formula.specs.Elements.{Totals, number, nothing, one, plus, times, count, atoms}
 use Rattle.formula.specs.Reading.{shown, atMost200}
@@ -27,6 +28,10 @@ WithElement a e n r = (h : Totals) → Holds a h → Holds r (plus h (times (one
 
 abbrev pub WithGroup : List ℕ → List ℕ → ℕ → List ℕ → Type 0
 WithGroup a b n r = (h m : Totals) → Holds a h → Holds b m → Holds r (plus h (times m n))
+
+-- a step after which the counts are a
+abbrev pub reading : Step → List ℕ → Reading
+reading r a = record { ok = r .ok; at = r .at; counts = a }
 
 -- r says that m was read from `from` on, and t is left of s; or that t is left where the reader is stuck
 pub record Found (s : List ℕ) (from : ℕ) (m : Totals) (t : List ℕ) (r : Reading) : Type 0 where

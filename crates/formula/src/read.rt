@@ -1,12 +1,14 @@
 // The reader: a formula reader calls an item reader, which calls the formula reader on a bracket, one level less deep.
 ghost use mathlib.Core.Path.{_≡_};
-ghost use mathlib.Core.Bool.{true, false};
+ghost use mathlib.Core.Bool.{true, false, cond};
 ghost use Prim.Native.Nat.{_+_, _*_, _≤_};
 ghost use lib.ListN.{length, drop};
+ghost use lib.Dec.{eqb};
 ghost use Rattle.refusal.specs.Outcome.{refused, refusal};
+ghost use Rattle.formula.specs.declared.read.Symbol.the-variants.{Two};
 ghost use Rattle.formula.specs.Reader.{symbolOf, multipleOf, multipleAt, ends};
 ghost use Rattle.formula.specs.Reading.{shown, formulaRead, ByGrammar};
-ghost use Rattle.formula.specs.Held.{cap, WithElement, WithGroup, CountedElement, CountedGroup, ElementSays, ClosedSays, ItemSays, FormulaSays, JudgedSays};
+ghost use Rattle.formula.specs.Held.{cap, reading, WithElement, WithGroup, CountedElement, CountedGroup, ElementSays, ClosedSays, ItemSays, FormulaSays, JudgedSays};
 use crate::Atoms;
 use crate::Element;
 use crate::FormulaRead;
@@ -31,37 +33,38 @@ pub struct Multiple {
     pub width: usize,
 }
 
-// What was read from a position on: atom counts, each up to 201, and the position behind them; or the position where reading is stuck.
+// Whether reading goes on: the position behind what was read, or that where reading is stuck.
+pub struct Step {
+    pub ok: bool,
+    pub at: usize,
+}
+
+// A step of a formula, and the atom counts so far, each up to 201.
 pub struct Reading {
     pub ok: bool,
     pub at: usize,
     pub counts: [u64; 10],
 }
 
+// The symbol of two bytes where the second, c, is the letter that e has there, and the other where it is not.
+fn two_or(other: Symbol, c: u8, letter: u8, e: Element) -> Symbol
+    ensures { λ r. ⌜ r ≡ cond (eqb c letter) (Two e) other ⌝ }
+{
+    if c == letter { Symbol::Two(e) } else { other }
+}
+
 fn symbol_of(b: u8, c: u8) -> Symbol
     ensures { λ r. ⌜ r ≡ symbolOf b c ⌝ }
 {
     match b {
-        b'C' => if c == b'l' {
-            Symbol::Two(Element::Chlorine)
-        } else {
-            Symbol::One(Element::Carbon)
-        },
+        b'C' => two_or(Symbol::One(Element::Carbon), c, b'l', Element::Chlorine),
         b'H' => Symbol::One(Element::Hydrogen),
         b'O' => Symbol::One(Element::Oxygen),
         b'N' => Symbol::One(Element::Nitrogen),
-        b'S' => if c == b'i' {
-            Symbol::Two(Element::Silicon)
-        } else {
-            Symbol::One(Element::Sulfur)
-        },
+        b'S' => two_or(Symbol::One(Element::Sulfur), c, b'i', Element::Silicon),
         b'P' => Symbol::One(Element::Phosphorus),
         b'F' => Symbol::One(Element::Fluorine),
-        b'B' => if c == b'r' {
-            Symbol::Two(Element::Bromine)
-        } else {
-            Symbol::Half
-        },
+        b'B' => two_or(Symbol::Half, c, b'r', Element::Bromine),
         _ => Symbol::Nothing,
     }
 }
@@ -108,62 +111,54 @@ fn capped_sum(a: u64, b: u64, n: u64) -> u64
     capped(capped(a) + capped(b) * capped(n))
 }
 
-// The counts with n atoms more of e.
-fn with_element(counts: [u64; 10], e: Element, n: u64) -> [u64; 10]
-    ensures { λ r. ⌜ WithElement counts e n r ⌝ }
-{
-    let k = (number_of(e) - 1) as usize;
-    let mut sum = counts;
-    sum[k] = capped_sum(counts[k], 1, n);
-    sum
-}
-
-// The counts with n times the group's.
-fn with_group(counts: [u64; 10], group: [u64; 10], n: u64) -> [u64; 10]
-    ensures { λ r. ⌜ WithGroup counts group n r ⌝ }
-{
-    let mut sum = [0u64; 10];
-    let mut i = 0;
-    while i < 10 {
-        sum[i] = capped_sum(counts[i], group[i], n);
-        i += 1;
-    }
-    sum
-}
-
-fn stopped(at: usize) -> Reading
+fn stopped(at: usize) -> Step
     ensures { λ r. ⌜ (r .ok ≡ false) × (r .at ≡ at) ⌝ }
 {
-    Reading {
-        ok: false,
-        at,
-        counts: [0; 10],
+    Step { ok: false, at }
+}
+
+// Adds n atoms of e to the counts.
+fn add_element(counts: &mut [u64; 10], e: Element, n: u64)
+    ensures { λ _. ⌜ WithElement (now (counts .entry)) e n (now (counts .exit)) ⌝ }
+{
+    let k = (number_of(e) - 1) as usize;
+    counts[k] = capped_sum(counts[k], 1, n);
+}
+
+// Adds n times the group's counts to the counts.
+fn add_group(counts: &mut [u64; 10], group: [u64; 10], n: u64)
+    ensures { λ _. ⌜ WithGroup (now (counts .entry)) group n (now (counts .exit)) ⌝ }
+{
+    let mut i = 0;
+    while i < 10 {
+        counts[i] = capped_sum(counts[i], group[i], n);
+        i += 1;
     }
 }
 
-// The counts acc with the element e as often as the count at a position says.
-fn counted_element(s: &[u8], at: usize, acc: [u64; 10], e: Element) -> Reading
+// Adds the element e to the counts as often as the count at a position says.
+fn counted_element(s: &[u8], at: usize, e: Element, counts: &mut [u64; 10]) -> Step
     requires { ⌜ at ≤ length (now s) ⌝ }
-    ensures { λ r. ⌜ CountedElement (now (s .entry)) at acc e r ⌝ }
+    ensures { λ r. ⌜ CountedElement (now (s .entry)) at (now (counts .entry)) e (reading r (now (counts .exit))) ⌝ }
 {
     let n = multiple_at(s, at);
-    Reading {
+    add_element(counts, e, n.value);
+    Step {
         ok: true,
         at: at + n.width,
-        counts: with_element(acc, e, n.value),
     }
 }
 
-// The counts acc with the group's as often as the count at a position says.
-fn counted_group(s: &[u8], at: usize, acc: [u64; 10], group: [u64; 10]) -> Reading
+// Adds the group's counts to the counts as often as the count at a position says.
+fn counted_group(s: &[u8], at: usize, group: [u64; 10], counts: &mut [u64; 10]) -> Step
     requires { ⌜ at ≤ length (now s) ⌝ }
-    ensures { λ r. ⌜ CountedGroup (now (s .entry)) at acc group r ⌝ }
+    ensures { λ r. ⌜ CountedGroup (now (s .entry)) at (now (counts .entry)) group (reading r (now (counts .exit))) ⌝ }
 {
     let n = multiple_at(s, at);
-    Reading {
+    add_group(counts, group, n.value);
+    Step {
         ok: true,
         at: at + n.width,
-        counts: with_group(acc, group, n.value),
     }
 }
 
@@ -178,48 +173,48 @@ fn ends_at(s: &[u8], at: usize) -> bool
     s[at] == b')'
 }
 
-// The element at a position with its count, added to the counts acc.
-fn element_at(s: &[u8], at: usize, acc: [u64; 10]) -> Reading
+// The element at a position with its count, added to the counts.
+fn element_at(s: &[u8], at: usize, counts: &mut [u64; 10]) -> Step
     requires { ⌜ at ≤ length (now s) ⌝ }
-    ensures { λ r. ⌜ ElementSays (now (s .entry)) at acc r ⌝ }
+    ensures { λ r. ⌜ ElementSays (now (s .entry)) at (now (counts .entry)) (reading r (now (counts .exit))) ⌝ }
 {
     match symbol_of(byte_at(s, at), byte_at(s, at + 1)) {
-        Symbol::One(e) => counted_element(s, at + 1, acc, e),
-        Symbol::Two(e) => counted_element(s, at + 2, acc, e),
+        Symbol::One(e) => counted_element(s, at + 1, e, counts),
+        Symbol::Two(e) => counted_element(s, at + 2, e, counts),
         Symbol::Half => stopped(at + 1),
         Symbol::Nothing => stopped(at),
     }
 }
 
-// The end of a group whose formula was read as inner: its bracket and its count, added to the counts acc.
-fn closed(s: &[u8], inner: Reading, acc: [u64; 10]) -> Reading
+// The end of a group whose formula was read as inner: its bracket and its count, added to the counts.
+fn closed(s: &[u8], inner: Reading, counts: &mut [u64; 10]) -> Step
     requires { ⌜ inner .at ≤ length (now s) ⌝ }
-    ensures { λ r. ⌜ ClosedSays (now (s .entry)) inner acc r ⌝ }
+    ensures { λ r. ⌜ ClosedSays (now (s .entry)) inner (now (counts .entry)) (reading r (now (counts .exit))) ⌝ }
 {
-    if !inner.ok {
-        return inner;
-    }
     let end = inner.at;
+    if !inner.ok {
+        return stopped(end);
+    }
     if end == s.len() {
         return stopped(end);
     }
     let group = inner.counts;
-    counted_group(s, end + 1, acc, group)
+    counted_group(s, end + 1, group, counts)
 }
 
-// The item at a position, its groups nested at most depth deep, added to the counts acc.
-fn item_at(s: &[u8], at: usize, depth: u64, acc: [u64; 10]) -> Reading
+// The item at a position, its groups nested at most depth deep, added to the counts.
+fn item_at(s: &[u8], at: usize, depth: u64, counts: &mut [u64; 10]) -> Step
     requires { ⌜ at ≤ length (now s) ⌝ }
-    ensures { λ r. ⌜ ItemSays (now (s .entry)) at depth acc r ⌝ }
+    ensures { λ r. ⌜ ItemSays (now (s .entry)) at depth (now (counts .entry)) (reading r (now (counts .exit))) ⌝ }
 {
-    if depth == 0 {
-        return element_at(s, at, acc);
-    }
     if byte_at(s, at) != b'(' {
-        return element_at(s, at, acc);
+        return element_at(s, at, counts);
+    }
+    if depth == 0 {
+        return stopped(at);
     }
     let inner = formula_at(s, at + 1, depth - 1);
-    closed(s, inner, acc)
+    closed(s, inner, counts)
 }
 
 // The formula from a position to the end of the text or of the group, its groups nested at most depth deep.
@@ -228,17 +223,17 @@ fn formula_at(s: &[u8], from: usize, depth: u64) -> Reading
     ensures { λ r. ⌜ FormulaSays (now (s .entry)) from depth r ⌝ }
 {
     let mut at = from;
-    let mut acc = [0u64; 10];
+    let mut counts = [0u64; 10];
     loop {
-        let r = item_at(s, at, depth, acc);
-        if !r.ok {
-            return r;
+        let step = item_at(s, at, depth, &mut counts);
+        let ok = step.ok;
+        at = step.at;
+        if !ok {
+            return Reading { ok, at, counts };
         }
-        at = r.at;
         if ends_at(s, at) {
-            return r;
+            return Reading { ok, at, counts };
         }
-        acc = r.counts;
     }
 }
 

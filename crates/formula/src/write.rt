@@ -13,9 +13,9 @@ ghost use Rattle.formula.specs.Writing.{formulaWritten, roomAfter};
 ghost use Rattle.formula.specs.RoundTrip.{RoundTrip};
 use crate::Atoms;
 use crate::Element;
-use crate::count_of;
 use crate::each;
 use crate::first_above;
+use crate::number_of;
 use refusal::Refusal;
 use text::Written;
 use text::put;
@@ -84,15 +84,13 @@ fn second_letter(e: Element) -> u8
     }
 }
 
-// The element at a place of the order.
-fn hill_element(atoms: Atoms, i: usize) -> Element
-    requires { ⌜ i < 10 ⌝ }
-    ensures { λ r. ⌜ r ≡ getD (hillOrder atoms) i Carbon ⌝ }
+fn hill_order(atoms: Atoms) -> [Element; 10]
+    ensures { λ r. ⌜ r ≡ hillOrder atoms ⌝ }
 {
     if atoms.count[0] == 0 {
-        BY_SYMBOL[i]
+        BY_SYMBOL
     } else {
-        CARBON_FIRST[i]
+        CARBON_FIRST
     }
 }
 
@@ -135,12 +133,15 @@ fn hill_line(atoms: Atoms) -> Line
     requires { ⌜ AtMost200 atoms ⌝ }
     ensures { λ r. ⌜ (length (r .bytes) ≡ 64) × (r .length ≤ 64) × (take (r .length) (r .bytes) ≡ hillText atoms) ⌝ }
 {
+    let counts = atoms.count;
+    let order = hill_order(atoms);
     let mut bytes = [0u8; 64];
     let mut at = 0;
     let mut i = 0;
     while i < 10 {
-        let e = hill_element(atoms, i);
-        at = put_item(&mut bytes, at, e, count_of(atoms, e));
+        let e = order[i];
+        let k = number_of(e) as usize;
+        at = put_item(&mut bytes, at, e, counts[k - 1]);
         i += 1;
     }
     Line { bytes, length: at }

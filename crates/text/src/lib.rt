@@ -1,6 +1,6 @@
 // Bytes of text: reading one, the lines and fields of a text, and putting text and numbers into a lent buffer.
 ghost use mathlib.Core.Path.{_≡_};
-ghost use Prim.Native.Nat.{_+_, _≤_};
+ghost use Prim.Native.Nat.{_+_, _≤_, _<_};
 ghost use lib.ListN.{length, getD, drop};
 ghost use Rattle.text.specs.Decimal.{decimal, digitFrom};
 ghost use Rattle.text.specs.Room.{putAt, behind};
@@ -88,6 +88,14 @@ pub fn write_whole(out: &mut [u8], s: &[u8]) -> Written
     }
 }
 
+// The byte of a digit.
+fn digit(n: u64) -> u8
+    requires { ⌜ n < 10 ⌝ }
+    ensures { λ r. ⌜ r ≡ 48 + n ⌝ }
+{
+    (48 + n) as u8
+}
+
 // A number's decimal digits, at the end of the array from a position on.
 struct Digits {
     bytes: [u8; 20],
@@ -102,12 +110,36 @@ fn digits_of(n: u64) -> Digits
     let mut left = n;
     while 9 < left {
         let by_ten = rounding::divide(left, 10);
-        bytes[at] = (48 + by_ten.remainder) as u8;
+        bytes[at] = digit(by_ten.remainder);
         left = by_ten.quotient;
         at -= 1;
     }
-    bytes[at] = (48 + left) as u8;
+    bytes[at] = digit(left);
     Digits { bytes, start: at }
+}
+
+// Puts the decimal digits of a number below 1000 into out at a position, as put does.
+fn put_short(out: &mut [u8], at: usize, n: u64) -> usize
+    requires { ⌜ n < 1000 ⌝ }
+    ensures { λ r. ⌜ r ≡ behind (now (out .entry)) at (decimal n) ⌝ }
+    ensures room { λ r. ⌜ now (out .exit) ≡ putAt (now (out .entry)) at (decimal n) ⌝ }
+{
+    if n < 10 {
+        let one = [digit(n)];
+        return put(out, at, &one);
+    }
+    let by_ten = rounding::divide(n, 10);
+    if n < 100 {
+        let two = [digit(by_ten.quotient), digit(by_ten.remainder)];
+        return put(out, at, &two);
+    }
+    let again = rounding::divide(by_ten.quotient, 10);
+    let three = [
+        digit(again.quotient),
+        digit(again.remainder),
+        digit(by_ten.remainder),
+    ];
+    put(out, at, &three)
 }
 
 // Puts the decimal digits of n into out at a position, as put does.
@@ -115,6 +147,9 @@ pub fn put_decimal(out: &mut [u8], at: usize, n: u64) -> usize
     ensures { λ r. ⌜ r ≡ behind (now (out .entry)) at (decimal n) ⌝ }
     ensures room { λ r. ⌜ now (out .exit) ≡ putAt (now (out .entry)) at (decimal n) ⌝ }
 {
+    if n < 1000 {
+        return put_short(out, at, n);
+    }
     let digits = digits_of(n);
     let bytes = digits.bytes;
     let start = digits.start;

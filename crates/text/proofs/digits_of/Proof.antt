@@ -1,6 +1,5 @@
 -- `digits_of` meets its contract: the digits of n are those of what is left, then those written.
-use mathlib.Core.Path.{_≡_, refl, ap}
-use Prim.Native.Nat.{_%_}
+use mathlib.Core.Path.{refl, ap}
 use native.Mathlib.Omega.{arith}
 use lib.ListN.{length-set}
 use Rattle.text.proofs.Decimals.{Spelling, spelling-starts, spelling-room, spelling-more, spelling-ends}
@@ -19,14 +18,8 @@ loop-holds c = spelling-starts (c .args .n) _ (omega (arith, c .fits .n)) refl
 divide-requires : tie.Need-divide-requires Inv-loop μ-loop
 divide-requires c κs = tt
 
-last-digit : (c : tie.After-struct-known Inv-loop μ-loop) → c .before .divide .result .remainder ≡ c .before .before .before .loop .left % 10
-last-digit c = ap (λ q. q .remainder) (c .before .divide .ensures)
-
-add-bytes : tie.Need-add-bytes Inv-loop μ-loop
-add-bytes c = omega (arith, last-digit c)
-
-cast-bytes : tie.Need-cast-bytes Inv-loop μ-loop
-cast-bytes c = omega (arith, last-digit c)
+digit-requires : tie.Need-digit-requires Inv-loop μ-loop
+digit-requires c κs = omega (arith, ap (λ q. q .remainder) (c .divide .ensures))
 
 array-write-bytes : tie.Need-array-write-bytes Inv-loop μ-loop
 array-write-bytes c = omega (arith, c .before .before .before .loop .inv .room)
@@ -38,23 +31,21 @@ loop-less : tie.Need-loop-less Inv-loop μ-loop
 loop-less c = omega (arith, sub-at c)
 
 loop-again : tie.Need-loop-again Inv-loop μ-loop
-loop-again c = rw (c .before .divide .ensures) (spelling-more _ _ _ _ (c .before .before .before .loop .inv) (c .before .before .loop-test .taken))
+loop-again c =
+    rw (c .digit .ensures, c .before .divide .ensures) (spelling-more _ _ _ _ (c .before .before .before .loop .inv) (c .before .before .loop-test .taken))
 
-add-bytes-2 : tie.Need-add-bytes-2 Inv-loop μ-loop
-add-bytes-2 c = omega arith
-
-cast-bytes-2 : tie.Need-cast-bytes-2 Inv-loop μ-loop
-cast-bytes-2 c = omega arith
+digit-requires-2 : tie.Need-digit-requires-2 Inv-loop μ-loop
+digit-requires-2 c κs = omega arith
 
 array-write-bytes-2 : tie.Need-array-write-bytes-2 Inv-loop μ-loop
-array-write-bytes-2 c = c .before .loop .inv .room
+array-write-bytes-2 c = c .before .before .loop .inv .room
 
 returns : tie.Need-returns Inv-loop μ-loop
 returns c =
-    let l = c .before .loop in (
+    let l = c .before .before .loop in (
       omega (arith, l .inv .room),
       simp length-set (l .inv .sized),
-      spelling-ends _ _ _ _ (l .inv) (omega arith),
+      rw (c .digit2 .ensures) (spelling-ends _ _ _ _ (l .inv) (omega arith)),
     )
 
 pub digits-of-spec : {M : Type 1} → statement M
@@ -65,13 +56,11 @@ digits-of-spec =
     μ-loop
     loop-holds
     divide-requires
-    add-bytes
-    cast-bytes
+    digit-requires
     array-write-bytes
     sub-at
     loop-less
     loop-again
-    add-bytes-2
-    cast-bytes-2
+    digit-requires-2
     array-write-bytes-2
     returns)

@@ -18,6 +18,7 @@ use Rattle.formula.proofs.read.+formula_at+item_at.Lts-item_at as item-
 use Rattle.formula.proofs.read.closed.Reads as closed
 use Rattle.formula.proofs.read.element_at.Reads as element
 use Rattle.formula.proofs.read.ends_at.Reads as ends
+use Rattle.formula.proofs.read.stopped.Reads as stopped
 use Rattle.text.proofs.byte_at.Reads as byte
 use Rattle.formula.proofs.read.+formula_at+item_at.{statement}
 use Rattle.formula.proofs.read.+formula_at+item_at.Tie.{close}
@@ -25,7 +26,7 @@ use Rattle.formula.proofs.read.+formula_at+item_at.Tie.{close}
 abbrev μ-formula : Measures 1 formula-kinds.ps ℕ
 μ-formula κs a = a .1 .1 .0 + a .1 .1 .0 + 1
 
-abbrev μ-item : Measures 1 item-kinds.ps ℕ
+abbrev μ-item : Measures 2 item-kinds.ps ℕ
 μ-item κs a = a .1 .1 .0 + a .1 .1 .0
 
 -- what each is given at the measure t, and what a call of it asks below t
@@ -35,50 +36,60 @@ formula-given t = and 1 formula-kinds.ps (is 1 formula-kinds.ps μ-formula t) fo
 abbrev formula-asked : ℕ → In 1 formula-kinds.ps
 formula-asked t = and 1 formula-kinds.ps (falls 1 formula-kinds.ps _<_ μ-formula t) formula.Pre
 
-abbrev item-given : ℕ → In 1 item-kinds.ps
-item-given t = and 1 item-kinds.ps (is 1 item-kinds.ps μ-item t) item.Pre
+abbrev item-given : ℕ → In 2 item-kinds.ps
+item-given t = and 2 item-kinds.ps (is 2 item-kinds.ps μ-item t) item.Pre
 
-abbrev item-asked : ℕ → In 1 item-kinds.ps
-item-asked t = and 1 item-kinds.ps (falls 1 item-kinds.ps _<_ μ-item t) item.Pre
+abbrev item-asked : ℕ → In 2 item-kinds.ps
+item-asked t = and 2 item-kinds.ps (falls 2 item-kinds.ps _<_ μ-item t) item.Pre
 
 abbrev formula-calls : ℕ → formula-lts.Claims
 formula-calls t = (item-asked t, item.Post, ends.Asked, ends.Learnt)
 
 abbrev item-calls : ℕ → item-lts.Claims
-item-calls t = (element.Asked, element.Learnt, byte.Asked, byte.Learnt, formula-asked t, formula.Post, closed.Asked, closed.Learnt)
+item-calls t = (
+  byte.Asked,
+  byte.Learnt,
+  element.Asked,
+  element.Learnt,
+  stopped.Asked,
+  stopped.Learnt,
+  formula-asked t,
+  formula.Post,
+  closed.Asked,
+  closed.Learnt,
+)
 
 abbrev Inv : formula-lts.InvT-loop
-Inv s from depth at₀ acc₀ at acc = Going s from depth at acc
+Inv s from depth at₀ counts₀ at counts = Going s from depth at counts
 
 abbrev μ : formula-lts.MeasureT-loop
-μ s from depth at₀ acc₀ at acc = length s - at
+μ s from depth at₀ counts₀ at counts = length s - at
 
 module _ (t : ℕ) where
   formula-loop-holds : formula-lts.Need-loop-holds (formula-calls t) (formula-given t) formula.Post Inv μ
   formula-loop-holds c = going-start _ _ _ (c .before .pre .1)
 
   formula-item-requires : formula-lts.Need-item-at-requires (formula-calls t) (formula-given t) formula.Post Inv μ
-  formula-item-requires c κs = (omega (arith, c .before .before .pre .0), c .loop .inv .within)
+  formula-item-requires c κs = (omega (arith, c .before .before .before .pre .0), c .before .loop .inv .within)
 
   formula-returns : formula-lts.Need-returns (formula-calls t) (formula-given t) formula.Post Inv μ
-  formula-returns c = let i = c .before .before in going-stuck (i .before .loop .inv) (i .item-at .result) (i .item-at .ensures) (not-true _ (c .if1 .taken))
+  formula-returns c = let i = c .before in going-stuck (i .before .before .loop .inv) _ (i .item-at .ensures) (not-true _ (c .if1 .taken))
 
   formula-ends-requires : formula-lts.Need-ends-at-requires (formula-calls t) (formula-given t) formula.Post Inv μ
-  formula-ends-requires c κs = let i = c .before .before in going-within (i .before .loop .inv) (i .item-at .result) (i .item-at .ensures)
+  formula-ends-requires c κs = let i = c .before in going-within (i .before .before .loop .inv) _ (i .item-at .ensures)
 
   formula-returns-2 : formula-lts.Need-returns-2 (formula-calls t) (formula-given t) formula.Post Inv μ
   formula-returns-2 c =
-      let i = c .before .before .before .before in
-      going-end (i .before .loop .inv) (i .item-at .result) (i .item-at .ensures) (sym (c .if2 .taken) ∙ c .before .ends-at .ensures)
+      let i = c .before .before .before in
+      going-end (i .before .before .loop .inv) _ (i .item-at .ensures) (sym (c .if2 .taken) ∙ c .before .ends-at .ensures)
 
   -- the turn with more to come
-  on : (c : formula-lts.After-acc (formula-calls t) (formula-given t) formula.Post Inv μ)
-      → let i = c .before .before .before .before .before in let a = i .before .before .before .args in
-      (i .before .loop .at < i .item-at .result .at) × Going (a .s .now) (a .from) (a .depth) (i .item-at .result .at) (i .item-at .result .counts)
+  on : (c : formula-lts.Else2 (formula-calls t) (formula-given t) formula.Post Inv μ)
+      → let i = c .before .before .before in let a = i .before .before .before .before .args in
+      (i .before .before .loop .at < i .item-at .result .at) × Going (a .s .now) (a .from) (a .depth) (i .item-at .result .at) (i .item-at .last .1 .1 .1 .0)
   on c =
-      let i = c .before .before .before .before .before in
-      going-on (i .before .loop .inv) (i .item-at .result) (i .item-at .ensures) (not-false _ (c .before .before .before .if1 .left))
-      (sym (c .before .if2 .left) ∙ c .before .before .ends-at .ensures)
+      let i = c .before .before .before in
+      going-on (i .before .before .loop .inv) _ (i .item-at .ensures) (not-false _ (c .before .before .if1 .left)) (sym (c .if2 .left) ∙ c .before .ends-at .ensures)
 
   formula-loop-less : formula-lts.Need-loop-less (formula-calls t) (formula-given t) formula.Post Inv μ
   formula-loop-less c = omega (arith, on c .0, on c .1 .within)
@@ -86,53 +97,54 @@ module _ (t : ℕ) where
   formula-loop-again : formula-lts.Need-loop-again (formula-calls t) (formula-given t) formula.Post Inv μ
   formula-loop-again c = on c .1
 
-  item-element-requires : item-lts.Need-element-at-requires (item-calls t) (item-given t) item.Post
-  item-element-requires c κs = c .before .before .pre .1
-
-  item-returns : item-lts.Need-returns (item-calls t) (item-given t) item.Post
-  item-returns c =
-      let a = c .before .before .before .args in
-      item-deepest (a .s .now) _ (a .at) (c .element-at .result) (a .depth) (omega arith) (c .element-at .ensures)
-
   item-byte-requires : item-lts.Need-byte-at-requires (item-calls t) (item-given t) item.Post
   item-byte-requires c κs = tt
 
-  item-element-requires-2 : item-lts.Need-element-at-requires-2 (item-calls t) (item-given t) item.Post
-  item-element-requires-2 c κs = c .before .before .before .before .pre .1
+  item-element-requires : item-lts.Need-element-at-requires (item-calls t) (item-given t) item.Post
+  item-element-requires c κs = c .before .before .before .before .pre .1
+
+  item-returns : item-lts.Need-returns (item-calls t) (item-given t) item.Post
+  item-returns c =
+      let b = c .before .before .before in
+      let a = b .before .before .args in
+      item-element (a .s .now) _ (a .at) _ _ _ (b .byte-at .ensures) (c .before .before .if1 .taken) (c .element-at .ensures)
+
+  item-stopped-requires : item-lts.Need-stopped-requires (item-calls t) (item-given t) item.Post
+  item-stopped-requires c κs = tt
 
   item-returns-2 : item-lts.Need-returns-2 (item-calls t) (item-given t) item.Post
   item-returns-2 c =
-      let b = c .before .before in
-      let a = b .before .before .before .args in
-      item-element (a .s .now) _ (a .at) (c .element-at2 .result) _ _ (b .byte-at .ensures) (c .before .if2 .taken) (c .element-at2 .ensures)
+      let e = c .before .before in
+      let a = e .before .before .before in
+      item-deepest (a .args .s .now) _ (a .args .at) _ _ _ (e .before .byte-at .ensures) (e .if1 .left) (c .before .if2 .taken) (a .pre .1) (c .stopped .ensures)
 
   bracket : (c : item-lts.Else2 (item-calls t) (item-given t) item.Post) → let a = c .before .before .before .before .args in a .at < length (a .s .now)
   bracket c =
       let a = c .before .before .before .before .args in
-      inside (a .s .now) (a .at) (omega (arith, c .before .byte-at .ensures, c .if2 .left))
+      inside (a .s .now) (a .at) (omega (arith, c .before .before .byte-at .ensures, c .before .if1 .left))
 
   item-add : item-lts.Need-add-formula-at (item-calls t) (item-given t) item.Post
   item-add c = omega (arith, bracket c, c .before .before .before .before .good)
 
   item-sub : item-lts.Need-sub-formula-at (item-calls t) (item-given t) item.Post
-  item-sub c = omega (arith, c .before .before .if1 .left)
+  item-sub c = omega (arith, c .if2 .left)
 
   item-formula-requires : item-lts.Need-formula-at-requires (item-calls t) (item-given t) item.Post
-  item-formula-requires c κs = (omega (arith, c .before .before .if1 .left, c .before .before .before .before .pre .0), omega (arith, bracket c))
+  item-formula-requires c κs = (omega (arith, c .if2 .left, c .before .before .before .before .pre .0), omega (arith, bracket c))
 
   item-closed-requires : item-lts.Need-closed-requires (item-calls t) (item-given t) item.Post
   item-closed-requires c κs =
-      let a = c .before .before .before .before .before .args in
-      formula-within (a .s .now) (a .at + 1) _ (c .formula-at .result) (c .formula-at .ensures)
+      let a = c .before .before .before .before .before .before .args in
+      formula-within (a .s .now) (a .at + 1) _ (c .before .formula-at .result) (c .before .formula-at .ensures)
 
   item-returns-3 : item-lts.Need-returns-3 (item-calls t) (item-given t) item.Post
   item-returns-3 c =
-      let e = c .before .before in
-      item-group _ _ _ _ _ _ (e .before .byte-at .ensures) (e .if2 .left) (e .before .before .if1 .left) _ (c .before .formula-at .ensures) (c .closed .ensures)
+      let e = c .before .before .before in
+      item-group _ _ _ _ _ _ (e .before .before .byte-at .ensures) (e .before .if1 .left) (e .if2 .left) _ (c .before .before .formula-at .ensures) (c .closed .ensures)
 
 pub +formula-at+item-at-spec : {M : Type 1} → statement M
 +formula-at+item-at-spec = close μ-formula μ-item
     (λ t. formula-lts.spec (formula-calls t) (formula-given t) formula.Post Inv μ (formula-loop-holds t) (formula-item-requires t) (formula-returns t)
     (formula-ends-requires t) (formula-returns-2 t) (formula-loop-less t) (formula-loop-again t))
-    λ t. item-lts.spec (item-calls t) (item-given t) item.Post (item-element-requires t) (item-returns t) (item-byte-requires t) (item-element-requires-2 t)
+    λ t. item-lts.spec (item-calls t) (item-given t) item.Post (item-byte-requires t) (item-element-requires t) (item-returns t) (item-stopped-requires t)
     (item-returns-2 t) (item-add t) (item-sub t) (item-formula-requires t) (item-closed-requires t) (item-returns-3 t)

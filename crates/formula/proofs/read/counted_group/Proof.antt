@@ -7,14 +7,14 @@ use Rattle.formula.proofs.read.counted_group.Tie as tie
 multiple-at-requires : tie.Need-multiple-at-requires
 multiple-at-requires c κs = search needs
 
-add-t6 : tie.Need-add-t6
-add-t6 c = search needs
+add-t8 : tie.Need-add-t8
+add-t8 c = search needs
 
-with-group-requires : tie.Need-with-group-requires
-with-group-requires c κs = search needs
+add-group-requires : tie.Need-add-group-requires
+add-group-requires c κs = search needs
 
 returns : tie.Need-returns
-returns c from h m l ha hm = counted-right _ _ from h m _ _ l (c .before .before .multiple-at .ensures) (c .with-group .ensures h m ha hm)
+returns c from h m l ha hm = counted-right _ _ from h m _ _ l (c .before .before .before .multiple-at .ensures) (c .before .add-group .ensures h m ha hm)
 
 pub counted-group-spec : {M : Type 1} → statement M
-counted-group-spec = tie.close (tie.spec multiple-at-requires add-t6 with-group-requires returns)
+counted-group-spec = tie.close (tie.spec multiple-at-requires add-group-requires add-t8 returns)

@@ -40,8 +40,8 @@ add-counted-element c = search needs
 
 counted-element-requires : tie.Need-counted-element-requires
 counted-element-requires c κs =
-    let y = c .before .before .before in
-    one-inside (s y) (at y) (c .before .e .given .0 .0) (here y (c .before .e .given .1))
+    let y = c .before .before .before .before in
+    one-inside (s y) (at y) (c .before .before .e .given .0 .0) (here y (c .before .before .e .given .1))
 
 enum-known-e-2 : tie.Need-enum-known-e-2
 enum-known-e-2 c = search needs
@@ -51,8 +51,8 @@ add-counted-element-2 c = search needs
 
 counted-element-requires-2 : tie.Need-counted-element-requires-2
 counted-element-requires-2 c κs =
-    let y = c .before .before .before in
-    two-inside (s y) (at y) (c .before .e2 .given .0 .0) (here y (c .before .e2 .given .1))
+    let y = c .before .before .before .before in
+    two-inside (s y) (at y) (c .before .before .e2 .given .0 .0) (here y (c .before .before .e2 .given .1))
 
 enum-told : tie.Need-enum-told
 enum-told c = search needs
@@ -71,13 +71,13 @@ stopped-requires-2 c κs = search needs
 
 returns : tie.Need-returns
 returns c =
-    let y = c .before .before .before .before in
-    element-one _ _ _ _ _ (here y (c .before .before .e .given .1)) (c .counted-element .ensures)
+    let y = c .before .before .before .before .before in
+    element-one _ _ _ _ _ (here y (c .before .before .before .e .given .1)) (c .counted-element .ensures)
 
 returns-2 : tie.Need-returns-2
 returns-2 c =
-    let y = c .before .before .before .before in
-    element-two _ _ _ _ _ (here y (c .before .before .e2 .given .1)) (c .counted-element2 .ensures)
+    let y = c .before .before .before .before .before in
+    element-two _ _ _ _ _ (here y (c .before .before .before .e2 .given .1)) (c .counted-element2 .ensures)
 
 returns-3 : tie.Need-returns-3
 returns-3 c =

@@ -1,6 +1,7 @@
 -- `hill_line` meets its contract: after i turns the line holds the first i items of the order, of at most five bytes each.
 use mathlib.Core.Path.{_≡_, refl, sym, ap, _∙_}
-use Prim.Native.Nat.{_-_}
+use mathlib.Core.List.{List}
+use Prim.Native.Nat.{ℕ, _-_}
 use native.Mathlib.Omega.{arith}
 use lib.ListN.{length, getD}
 use Rattle.formula.specs.declared.Element.{Element}
@@ -8,43 +9,65 @@ use Rattle.formula.specs.declared.Element.the-variants.{Carbon}
 use Rattle.formula.specs.declared.Atoms.{Atoms}
 use Rattle.formula.specs.Elements.{count}
 use Rattle.formula.specs.Hill.{hillOrder, hillItem}
+use Rattle.formula.proofs.Elements.{number-from, number-to}
 use Rattle.formula.proofs.HillLines.{LineOf, line-starts, line-room, line-more, line-done}
 use Rattle.formula.proofs.write.hill_line.Statement.{statement}
 use Rattle.formula.proofs.write.hill_line.Tie as tie
 
 abbrev Inv-loop : tie.InvT-loop
-Inv-loop atoms bytes₀ at₀ i₀ bytes at i = LineOf atoms bytes at i
+Inv-loop counts order bytes₀ at₀ i₀ bytes at i = LineOf (record { count = counts }) bytes at i
 
 abbrev μ-loop : tie.MeasureT-loop
-μ-loop atoms bytes₀ at₀ i₀ bytes at i = 10 - i
+μ-loop counts order bytes₀ at₀ i₀ bytes at i = 10 - i
+
+-- the item of the turn
+module _ (c : tie.After-number-of Inv-loop μ-loop) where
+  abbrev a : Atoms
+  a = c .before .before .before .before .before .before .args .atoms
+
+  abbrev i : ℕ
+  i = c .before .before .before .loop .i
+
+  abbrev e : Element
+  e = getD (hillOrder a) i Carbon
+
+  abbrev found : Element
+  found = getD (c .before .before .before .before .hill-order .result) i Carbon
+
+  item-is : hillItem found (getD (a .count) (c .number-of .result - 1) 0) ≡ hillItem e (count a e)
+  item-is =
+      ap (λ (k : ℕ). hillItem found (getD (a .count) (k - 1) 0)) (c .number-of .ensures)
+      ∙ ap (λ (es : List Element). hillItem (getD es i Carbon) (count a (getD es i Carbon))) (c .before .before .before .before .hill-order .ensures)
+
+hill-order-requires : tie.Need-hill-order-requires Inv-loop μ-loop
+hill-order-requires c κs = tt
 
 loop-holds : tie.Need-loop-holds Inv-loop μ-loop
 loop-holds c = line-starts _ _ refl
 
-hill-element-requires : tie.Need-hill-element-requires Inv-loop μ-loop
-hill-element-requires c κs = omega arith
+array-copy-out-e : tie.Need-array-copy-out-e Inv-loop μ-loop
+array-copy-out-e c = omega arith
+
+number-of-requires : tie.Need-number-of-requires Inv-loop μ-loop
+number-of-requires c κs = tt
 
 slice-aggregate-put-item : tie.Need-slice-aggregate-put-item Inv-loop μ-loop
-slice-aggregate-put-item c = sym (c .before .before .before .loop .inv .holds .sized)
+slice-aggregate-put-item c = sym (c .before .before .before .before .loop .inv .holds .sized)
 
-count-of-requires : tie.Need-count-of-requires Inv-loop μ-loop
-count-of-requires c κs = tt
+sub-put-item : tie.Need-sub-put-item Inv-loop μ-loop
+sub-put-item c = omega (arith, c .before .number-of .ensures, number-from (found (c .before)))
 
--- the item of the turn
-module _ (c : tie.After-count-of Inv-loop μ-loop) where
-  abbrev a : Atoms
-  a = c .before .before .before .before .before .args .atoms
+mul-put-item : tie.Need-mul-put-item Inv-loop μ-loop
+mul-put-item c = omega (arith, c .before .number-of .ensures, number-to (found (c .before)))
 
-  abbrev e : Element
-  e = getD (hillOrder a) (c .before .before .before .before .loop .i) Carbon
-
-  item-is : hillItem (c .before .before .hill-element .result) (c .count-of .result) ≡ hillItem e (count a e)
-  item-is = ap (hillItem (c .before .before .hill-element .result)) (c .count-of .ensures) ∙ ap (λ (f : Element). hillItem f (count a f)) (c .before .before .hill-element .ensures)
+array-read-put-item : tie.Need-array-read-put-item Inv-loop μ-loop
+array-read-put-item c = omega (arith, c .before .number-of .ensures, number-from (found (c .before)), number-to (found (c .before)))
 
 put-item-requires : tie.Need-put-item-requires Inv-loop μ-loop
 put-item-requires c κs =
-    let l = c .before .before .before .before .loop in
-    omega (arith, ap length (item-is c), line-room (a c) (c .before .before .before .before .before .pre) (l .bytes) (l .at) (l .i) (l .inv) (omega arith), l .inv .holds .sized)
+    let b = c .before in
+    let l = b .before .before .before .loop in
+    omega (arith, ap length (item-is b), line-room (a b) (b .before .before .before .before .before .before .pre) (l .bytes) (l .at) (l .i) (l .inv) (omega arith), l .inv .holds .sized)
 
 add-i : tie.Need-add-i Inv-loop μ-loop
 add-i c = omega arith
@@ -55,9 +78,10 @@ loop-less c = omega arith
 loop-again : tie.Need-loop-again Inv-loop μ-loop
 loop-again c =
     let p = c .before in
-    let l = p .before .before .before .before .before .loop in
-    let done = rw (item-is (p .before)) at (p .put-item .ensures) in
-    rw (done .0, done .1) (line-more (a (p .before)) (p .before .before .before .before .before .before .pre) (l .bytes) (l .at) (l .i) (l .inv) (omega arith))
+    let b = p .before .before in
+    let l = b .before .before .before .loop in
+    let done = rw (item-is b) at (p .put-item .ensures) in
+    rw (done .0, done .1) (line-more (a b) (b .before .before .before .before .before .before .pre) (l .bytes) (l .at) (l .i) (l .inv) (omega arith))
 
 returns : tie.Need-returns Inv-loop μ-loop
 returns c =
@@ -70,10 +94,14 @@ hill-line-spec =
     (tie.spec
     Inv-loop
     μ-loop
+    hill-order-requires
     loop-holds
-    hill-element-requires
+    array-copy-out-e
+    number-of-requires
     slice-aggregate-put-item
-    count-of-requires
+    sub-put-item
+    mul-put-item
+    array-read-put-item
     put-item-requires
     add-i
     loop-less
