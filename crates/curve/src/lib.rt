@@ -5,11 +5,11 @@ ghost use mathlib.Core.Bool.{true, false};
 ghost use Prim.Native.Nat.{_≤_, _<_};
 ghost use lib.IntN.{pos};
 ghost use lib.ListN.{length, getD};
-ghost use Rattle.refusal.specs.Outcome.{refused, refusal, shownTemperature};
+ghost use Rattle.refusal.specs.Outcome.{shownTemperature};
 ghost use Rattle.curve.specs.Smallest.{kelvin as kelvinOf, celsius as celsiusOf, smallest, met};
 ghost use Rattle.curve.specs.Curve.{curve, sizes, inRange, badPoint, between, segment, Accepted, searchedOn, onCurve, Sound};
 ghost use Rattle.curve.specs.Held.{holds, Bounded, Sloped, indexOf};
-ghost use Rattle.curve.specs.Questions.{lowerTemperatureLimit, flashByCurve, threshold, purposeOf, outside};
+ghost use Rattle.curve.specs.Questions.{lowerTemperatureLimit, flashByCurve, threshold, purposeOf};
 use formula::Atoms;
 use limits::fuel_limits_at;
 use oxygen::FIT_TEMPERATURE;
@@ -17,6 +17,8 @@ use oxygen::Purpose;
 use oxygen::admit;
 use refusal::Refusal;
 use refusal::Temperature;
+use refusal::is_not_within;
+use refusal::refused_temperature;
 use rounding::divide;
 use rounding::size;
 
@@ -33,15 +35,6 @@ pub struct Segment {
     pub to: u64,
     pub low: u64,
     pub high: u64,
-}
-
-fn refuse(number: u64, place: u64) -> Temperature
-    ensures { λ r. ⌜ r ≡ shownTemperature (refused (refusal number place)) ⌝ }
-{
-    Temperature {
-        refusal: Refusal { number, place },
-        value: 0,
-    }
 }
 
 // A temperature in hundredths of °C, counted from −273 °C; 0 below.
@@ -181,11 +174,11 @@ fn search(temperatures: &[i64], pressures: &[u64], c: Condition) -> Temperature
     let mut i: usize = 0;
     let found = loop {
         if temperatures.len() <= i {
-            break refuse(refusal::FALSE_AT_LAST, 0);
+            break refused_temperature(refusal::FALSE_AT_LAST, 0);
         }
         if is_met(c, temperature_at(temperatures, i), pressures[i]) {
             if i == 0 {
-                break refuse(refusal::TRUE_AT_FIRST, 0);
+                break refused_temperature(refusal::TRUE_AT_FIRST, 0);
             }
             let t = hundredth(c, segment_at(temperatures, pressures, i));
             break Temperature {
@@ -220,11 +213,11 @@ fn on_curve(temperatures: &[i64], pressures: &[u64], c: Condition) -> Temperatur
     ensures { λ r. ⌜ r ≡ shownTemperature (onCurve (holds c) (curve (now (temperatures .entry)) (now (pressures .entry)))) ⌝ }
 {
     if !is_sized(temperatures.len(), pressures.len()) {
-        return refuse(refusal::BAD_CURVE, 0);
+        return refused_temperature(refusal::BAD_CURVE, 0);
     }
     let bad = first_bad(temperatures, pressures);
     if bad < temperatures.len() {
-        return refuse(refusal::BAD_CURVE, bad as u64);
+        return refused_temperature(refusal::BAD_CURVE, bad as u64);
     }
     search(temperatures, pressures, c)
 }
@@ -237,7 +230,7 @@ pub fn lower_temperature_limit(fuel: Atoms, temperatures: &[i64], pressures: &[u
     let limits = fuel_limits_at(fuel, FIT_TEMPERATURE);
     let declined = limits.refusal;
     if 0 < declined.number {
-        return refuse(declined.number, declined.place);
+        return refused_temperature(declined.number, declined.place);
     }
     let c = Condition {
         slope: 0,
@@ -268,16 +261,6 @@ fn purpose_of(method: u64) -> Purpose
     Purpose::OxygenCoefficient
 }
 
-// Whether a number is not from 1 to last.
-fn is_outside(last: u64, k: u64) -> bool
-    ensures { λ r. ⌜ r ≡ outside last k ⌝ }
-{
-    if k < 1 {
-        return true;
-    }
-    last < k
-}
-
 // Formula (35): method 1 closed cup, 2 open cup, 3 fire point; the diffusion coefficient in units of 0.0001 cm²/s.
 // Refusals 16, 2, 3, 4, 18, 11, 12, 13.
 pub fn flash_by_curve(
@@ -290,16 +273,16 @@ pub fn flash_by_curve(
     ensures { λ r. ⌜ r ≡ shownTemperature (flashByCurve method fuel diffusion (curve (now (temperatures .entry)) (now (pressures .entry)))) ⌝ }
     ensures sound { λ _. ⌜ Sound (curve (now (temperatures .entry)) (now (pressures .entry))) ⌝ }
 {
-    if is_outside(3, method) {
-        return refuse(refusal::UNKNOWN_METHOD, 0);
+    if is_not_within(3, method) {
+        return refused_temperature(refusal::UNKNOWN_METHOD, 0);
     }
     let oxygen = admit(purpose_of(method), fuel);
     let declined = oxygen.refusal;
     if 0 < declined.number {
-        return refuse(declined.number, declined.place);
+        return refused_temperature(declined.number, declined.place);
     }
-    if is_outside(20000, diffusion) {
-        return refuse(refusal::DIFFUSION_OUTSIDE, 0);
+    if is_not_within(20000, diffusion) {
+        return refused_temperature(refusal::DIFFUSION_OUTSIDE, 0);
     }
     let c = Condition {
         slope: diffusion * oxygen.value,

@@ -3,9 +3,9 @@ ghost use mathlib.Core.Path.{_≡_};
 ghost use Prim.Native.Nat.{_≤_};
 ghost use lib.IntN.{pos, natAbs};
 ghost use Rattle.refusal.specs.Lowest.{orZero};
-ghost use Rattle.refusal.specs.Outcome.{refused, answered, refusal, shownTemperature};
+ghost use Rattle.refusal.specs.Outcome.{answered, shownTemperature};
 ghost use Rattle.rounding.specs.Round.{roundDivℤ};
-ghost use Rattle.flash.specs.Points.{unknown, outside, noCoefficientAt, terms, sumFrom, classTerms, byBonds, byClass};
+ghost use Rattle.flash.specs.Points.{outside, noCoefficientAt, terms, sumFrom, classTerms, byBonds, byClass};
 ghost use Rattle.flash.specs.Held.{Method, FewBonds, column, blank, termOf};
 use bonds::Bonds;
 use bonds::first_above_200;
@@ -13,6 +13,8 @@ use bonds::hydrogen_differs;
 use formula::Atoms;
 use refusal::Refusal;
 use refusal::Temperature;
+use refusal::is_not_within;
+use refusal::refused_temperature;
 use rounding::round_div_signed;
 
 // The bonds' coefficients in thousandths, by method. 0 is a blank of the table.
@@ -125,16 +127,6 @@ fn column_of(method: usize) -> [i64; 22]
     FIRE_POINT
 }
 
-// Whether a number is not from 1 to last.
-fn is_unknown(last: u64, k: u64) -> bool
-    ensures { λ r. ⌜ r ≡ unknown last k ⌝ }
-{
-    if k < 1 {
-        return true;
-    }
-    last < k
-}
-
 // Whether a boiling point is outside −200.00 to 600.00.
 fn is_outside(t: i64) -> bool
     ensures { λ r. ⌜ r ≡ outside t ⌝ }
@@ -202,15 +194,6 @@ fn class_sum(class: usize, boiling: i64) -> i64
     100 * CLASSES[class - 1][0] + CLASSES[class - 1][1] * boiling
 }
 
-fn refuse(number: u64, place: u64) -> Temperature
-    ensures { λ r. ⌜ r ≡ shownTemperature (refused (refusal number place)) ⌝ }
-{
-    Temperature {
-        refusal: Refusal { number, place },
-        value: 0,
-    }
-}
-
 // A sum in hundred-thousandths of a degree, rounded once to hundredths.
 fn rounded(sum: i64) -> Temperature
     ensures { λ r. ⌜ r ≡ shownTemperature (answered (roundDivℤ sum 1000)) ⌝ }
@@ -228,22 +211,22 @@ fn rounded(sum: i64) -> Temperature
 pub fn flash_by_bonds(method: u64, atoms: Atoms, bonds: Bonds, boiling: i64) -> Temperature
     ensures { λ r. ⌜ r ≡ shownTemperature (byBonds method atoms bonds boiling) ⌝ }
 {
-    if is_unknown(3, method) {
-        return refuse(refusal::UNKNOWN_METHOD, 0);
+    if is_not_within(3, method) {
+        return refused_temperature(refusal::UNKNOWN_METHOD, 0);
     }
     let over = first_above_200(atoms, bonds);
     if 0 < over {
-        return refuse(refusal::COUNT_TOO_LARGE, over);
+        return refused_temperature(refusal::COUNT_TOO_LARGE, over);
     }
     if hydrogen_differs(atoms, bonds) {
-        return refuse(refusal::HYDROGEN_DIFFERS, 0);
+        return refused_temperature(refusal::HYDROGEN_DIFFERS, 0);
     }
     let missing = first_missing(method as usize, bonds);
     if 0 < missing {
-        return refuse(refusal::NO_COEFFICIENT, missing);
+        return refused_temperature(refusal::NO_COEFFICIENT, missing);
     }
     if is_outside(boiling) {
-        return refuse(refusal::BOILING_POINT_OUTSIDE, 0);
+        return refused_temperature(refusal::BOILING_POINT_OUTSIDE, 0);
     }
     rounded(bond_sum(method as usize, bonds, boiling))
 }
@@ -252,11 +235,11 @@ pub fn flash_by_bonds(method: u64, atoms: Atoms, bonds: Bonds, boiling: i64) -> 
 pub fn flash_by_class(class: u64, boiling: i64) -> Temperature
     ensures { λ r. ⌜ r ≡ shownTemperature (byClass class boiling) ⌝ }
 {
-    if is_unknown(10, class) {
-        return refuse(refusal::UNKNOWN_METHOD, 0);
+    if is_not_within(10, class) {
+        return refused_temperature(refusal::UNKNOWN_METHOD, 0);
     }
     if is_outside(boiling) {
-        return refuse(refusal::BOILING_POINT_OUTSIDE, 0);
+        return refused_temperature(refusal::BOILING_POINT_OUTSIDE, 0);
     }
     rounded(class_sum(class as usize, boiling))
 }

@@ -27,19 +27,19 @@ none-bad c = index-good (lent (c .before .before .before .before .before)) (omeg
 is-sized-requires : tie.Need-is-sized-requires
 is-sized-requires c κs = search needs
 
-refuse-requires : tie.Need-refuse-requires
-refuse-requires c κs = search needs
+refused-temperature-requires : tie.Need-refused-temperature-requires
+refused-temperature-requires c κs = search needs
 
 returns : tie.Need-returns
 returns c =
     let s = c .before .before .before .before in
-    c .refuse .ensures ∙ sym (ap shownTemperature (unsized (holds (s .args .c)) (lent s) (sym (c .before .before .is-sized .ensures) ∙ not-true _ (c .before .if1 .taken))))
+    c .refused-temperature .ensures ∙ sym (ap shownTemperature (unsized (holds (s .args .c)) (lent s) (sym (c .before .before .is-sized .ensures) ∙ not-true _ (c .before .if1 .taken))))
 
 first-bad-requires : tie.Need-first-bad-requires
 first-bad-requires c κs = paired (lent (c .before .before .before)) (sized-is c)
 
-refuse-requires-2 : tie.Need-refuse-requires-2
-refuse-requires-2 c κs = search needs
+refused-temperature-requires-2 : tie.Need-refused-temperature-requires-2
+refused-temperature-requires-2 c κs = search needs
 
 returns-2 : tie.Need-returns-2
 returns-2 c =
@@ -47,7 +47,7 @@ returns-2 c =
     let s = b .before .before .before .before in
     let e = b .first-bad .ensures in
     let f = index-bad (lent s) (omega (arith, e)) in
-    c .refuse2 .ensures ∙ ap (λ (p : ℕ). shownTemperature (refused (refusal badCurve p))) e ∙ sym (ap shownTemperature (bad-at (holds (s .args .c)) (lent s) _ (sized-is (b .before)) f))
+    c .refused-temperature2 .ensures ∙ ap (λ (p : ℕ). shownTemperature (refused (refusal badCurve p))) e ∙ sym (ap shownTemperature (bad-at (holds (s .args .c)) (lent s) _ (sized-is (b .before)) f))
 
 search-requires : tie.Need-search-requires
 search-requires c κs =
@@ -65,10 +65,10 @@ on-curve-spec =
     tie.close
     (tie.spec
     is-sized-requires
-    refuse-requires
+    refused-temperature-requires
     returns
     first-bad-requires
-    refuse-requires-2
+    refused-temperature-requires-2
     returns-2
     search-requires
     returns-3)
