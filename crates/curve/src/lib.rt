@@ -7,8 +7,8 @@ ghost use lib.IntN.{pos};
 ghost use lib.ListN.{length, getD};
 ghost use Rattle.refusal.specs.Outcome.{shownTemperature};
 ghost use Rattle.curve.specs.Smallest.{kelvin as kelvinOf, celsius as celsiusOf, smallest, met};
-ghost use Rattle.curve.specs.Curve.{curve, sizes, inRange, badPoint, between, segment, Accepted, searchedOn, onCurve, Sound};
-ghost use Rattle.curve.specs.Held.{holds, Bounded, Sloped, indexOf};
+ghost use Rattle.curve.specs.Curve.{curve, sizes, between, segment, Accepted, searchedOn, onCurve, Sound};
+ghost use Rattle.curve.specs.Held.{holds, Bounded, Sloped, above, indexOf};
 ghost use Rattle.curve.specs.Questions.{lowerTemperatureLimit, flashByCurve, threshold, purposeOf};
 use formula::Atoms;
 use limits::fuel_limits_at;
@@ -59,21 +59,6 @@ fn celsius(k: u64) -> i64
     k as i64 - 27300
 }
 
-fn in_range(t: u64, p: u64) -> bool
-    ensures { λ r. ⌜ r ≡ inRange t p ⌝ }
-{
-    if t < 7300 {
-        return false;
-    }
-    if 87300 < t {
-        return false;
-    }
-    if p < 1 {
-        return false;
-    }
-    p <= 250000
-}
-
 // The temperature of point i.
 fn temperature_at(temperatures: &[i64], i: usize) -> u64
     requires { ⌜ i < length (now temperatures) ⌝ }
@@ -82,23 +67,20 @@ fn temperature_at(temperatures: &[i64], i: usize) -> u64
     kelvin(temperatures[i])
 }
 
-// Whether point i is out of range or not above the one before.
-fn is_bad(temperatures: &[i64], pressures: &[u64], i: usize) -> bool
-    requires { ⌜ (i < length (now temperatures)) × (i < length (now pressures)) ⌝ }
-    ensures { λ r. ⌜ r ≡ badPoint (curve (now (temperatures .entry)) (now (pressures .entry))) i ⌝ }
+// Whether a point is in range and above the one before, t0 and p0; 72.99 and 0 stand before the first.
+fn is_above(t0: u64, p0: u64, t: u64, p: u64) -> bool
+    ensures { λ r. ⌜ r ≡ above t0 p0 t p ⌝ }
 {
-    let t = temperature_at(temperatures, i);
-    let p = pressures[i];
-    if !in_range(t, p) {
-        return true;
-    }
-    if i == 0 {
+    if t <= t0 {
         return false;
     }
-    if t <= temperature_at(temperatures, i - 1) {
-        return true;
+    if 87300 < t {
+        return false;
     }
-    p <= pressures[i - 1]
+    if p <= p0 {
+        return false;
+    }
+    p <= 250000
 }
 
 // The first bad point, or the number of points.
@@ -106,11 +88,17 @@ fn first_bad(temperatures: &[i64], pressures: &[u64]) -> usize
     requires { ⌜ length (now temperatures) ≡ length (now pressures) ⌝ }
     ensures { λ r. ⌜ r ≡ indexOf (curve (now (temperatures .entry)) (now (pressures .entry))) ⌝ }
 {
+    let mut t0: u64 = 7299;
+    let mut p0: u64 = 0;
     let mut i: usize = 0;
     while i < temperatures.len() {
-        if is_bad(temperatures, pressures, i) {
+        let t = temperature_at(temperatures, i);
+        let p = pressures[i];
+        if !is_above(t0, p0, t, p) {
             return i;
         }
+        t0 = t;
+        p0 = p;
         i += 1;
     }
     i
