@@ -7,8 +7,8 @@ ghost use lib.IntN.{pos};
 ghost use lib.ListN.{length, getD};
 ghost use Rattle.refusal.specs.Outcome.{shownTemperature};
 ghost use Rattle.curve.specs.Smallest.{kelvin as kelvinOf, celsius as celsiusOf, smallest, met};
-ghost use Rattle.curve.specs.Curve.{curve, sizes, between, segment, Accepted, searchedOn, onCurve, Sound};
-ghost use Rattle.curve.specs.Held.{holds, Bounded, Sloped, above, indexOf};
+ghost use Rattle.curve.specs.Curve.{curve, sizes, between, segment, Accepted, onCurve, Sound};
+ghost use Rattle.curve.specs.Held.{holds, Bounded, Sloped, above, indexOf, FoundOn};
 ghost use Rattle.curve.specs.Questions.{lowerTemperatureLimit, flashByCurve, threshold, purposeOf};
 use formula::Atoms;
 use limits::fuel_limits_at;
@@ -35,6 +35,12 @@ pub struct Segment {
     pub to: u64,
     pub low: u64,
     pub high: u64,
+}
+
+// What a search finds: the point at which the segment of the answer ends, 0 with a refusal; and the answer.
+struct Found {
+    segment: usize,
+    temperature: Temperature,
 }
 
 // A temperature in hundredths of °C, counted from −273 °C; 0 below.
@@ -155,26 +161,35 @@ fn segment_at(temperatures: &[i64], pressures: &[u64], i: usize) -> Segment
 }
 
 // The search over an accepted curve: over its segments, then over the hundredths of the first that ends where the condition holds.
-fn search(temperatures: &[i64], pressures: &[u64], c: Condition) -> Temperature
+fn search(temperatures: &[i64], pressures: &[u64], c: Condition) -> Found
     requires { ⌜ (Bounded c) × Accepted (curve (now temperatures) (now pressures)) ⌝ }
-    ensures { λ r. ⌜ r ≡ shownTemperature (searchedOn (holds c) (curve (now (temperatures .entry)) (now (pressures .entry)))) ⌝ }
+    ensures { λ r. ⌜ FoundOn c (curve (now (temperatures .entry)) (now (pressures .entry))) r ⌝ }
 {
     let mut i: usize = 0;
     let found = loop {
         if temperatures.len() <= i {
-            break refused_temperature(refusal::FALSE_AT_LAST, 0);
+            break Found {
+                segment: 0,
+                temperature: refused_temperature(refusal::FALSE_AT_LAST, 0),
+            };
         }
         if is_met(c, temperature_at(temperatures, i), pressures[i]) {
             if i == 0 {
-                break refused_temperature(refusal::TRUE_AT_FIRST, 0);
+                break Found {
+                    segment: 0,
+                    temperature: refused_temperature(refusal::TRUE_AT_FIRST, 0),
+                };
             }
             let t = hundredth(c, segment_at(temperatures, pressures, i));
-            break Temperature {
-                refusal: Refusal {
-                    number: 0,
-                    place: 0,
+            break Found {
+                segment: i,
+                temperature: Temperature {
+                    refusal: Refusal {
+                        number: 0,
+                        place: 0,
+                    },
+                    value: celsius(t),
                 },
-                value: celsius(t),
             };
         }
         i += 1;
@@ -207,7 +222,7 @@ fn on_curve(temperatures: &[i64], pressures: &[u64], c: Condition) -> Temperatur
     if bad < temperatures.len() {
         return refused_temperature(refusal::BAD_CURVE, bad as u64);
     }
-    search(temperatures, pressures, c)
+    search(temperatures, pressures, c).temperature
 }
 
 // The lower temperature limit of a fuel. Refusals 2, 3, 4 as for limits, then 11, 12, 13.
