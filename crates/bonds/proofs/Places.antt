@@ -17,12 +17,12 @@ module _ (a : Atoms) (b : Bonds) where
   abbrev pub above200 : ℕ → Bool
   above200 p = ltb 200 (countOf a b p)
 
-  -- what stands at a place
-  pub at-element : (p : ℕ) → p ≤ 10 → getD (a .count) (p - 1) 0 ≡ countOf a b p
-  at-element p h = rw (le-leb p 10 h)
+  -- what stands at the place 1 + i
+  pub at-element : (i : ℕ) → i < 10 → getD (a .count) i 0 ≡ countOf a b (1 + i)
+  at-element i h = let index : 1 + i - 1 ≡ i = omega arith in rw (le-leb (1 + i) 10 (omega arith), index)
 
-  pub at-kind : (p : ℕ) → 10 < p → getD (b .count) (p - 11) 0 ≡ countOf a b p
-  at-kind p h = let index : p - 10 - 1 ≡ p - 11 = omega arith in rw (lt-leb p 10 h, index)
+  pub at-kind : (i : ℕ) → 10 ≤ i → getD (b .count) (i - 10) 0 ≡ countOf a b (1 + i)
+  at-kind i h = let index : 1 + i - 10 - 1 ≡ i - 10 = omega arith in rw (lt-leb (1 + i) 10 (omega arith), index)
 
   -- the search from the place 1 + i on, by the count n there
   module _ (i n : ℕ) (e : n ≡ countOf a b (1 + i)) (l : i < 32) where
@@ -40,6 +40,6 @@ module _ (a : Atoms) (b : Bonds) where
   pub few-bonds : aboveAt a b ≡ none → (j : ℕ) → 1 ≤ j → j ≤ 22 → bondsAt b j ≤ 200
   unfolding aboveAt
   few-bonds e j l h =
-      let index : j + 10 - 11 ≡ j - 1 = omega arith in
-      let fails : above200 (j + 10) ≡ false = rw e at (is-lowest above200 1 32) (j + 10) (omega arith) (omega arith) in
-      omega (arith, rw index at (at-kind (j + 10) (omega arith)), ltb-false 200 (countOf a b (j + 10)) fails)
+      let index : j + 9 - 10 ≡ j - 1 = omega arith in
+      let fails : above200 (1 + (j + 9)) ≡ false = rw e at (is-lowest above200 1 32) (1 + (j + 9)) (omega arith) (omega arith) in
+      omega (arith, rw index at (at-kind (j + 9) (omega arith)), ltb-false 200 (countOf a b (1 + (j + 9))) fails)

@@ -1,8 +1,7 @@
 // Bond kinds and counts, and what the counts of atoms and bonds have to agree in.
 ghost use mathlib.Core.Path.{_≡_};
-ghost use Prim.Native.Nat.{_≤_};
 ghost use Rattle.refusal.specs.Lowest.{orZero};
-ghost use Rattle.bonds.specs.Kinds.{countOf, aboveAt, hydrogenDiffers};
+ghost use Rattle.bonds.specs.Kinds.{aboveAt, hydrogenDiffers};
 use formula::Atoms;
 
 // Bond counts, indexed by kind less one.
@@ -11,25 +10,18 @@ pub struct Bonds {
     pub count: [u64; 22],
 }
 
-// The count at a place: elements 1 to 10, then bond kinds as 11 to 32.
-fn count_at(atoms: Atoms, bonds: Bonds, place: usize) -> u64
-    requires { ⌜ (1 ≤ place) × (place ≤ 32) ⌝ }
-    ensures { λ r. ⌜ r ≡ countOf atoms bonds place ⌝ }
-{
-    if place <= 10 {
-        atoms.count[place - 1]
-    } else {
-        bonds.count[place - 11]
-    }
-}
-
-// The lowest place with a count above 200, 0 where there is none.
+// The lowest place with a count above 200, 0 where there is none: elements 1 to 10, then bond kinds as 11 to 32.
 pub fn first_above_200(atoms: Atoms, bonds: Bonds) -> u64
     ensures { λ r. ⌜ r ≡ orZero (aboveAt atoms bonds) ⌝ }
 {
     let mut i: usize = 0;
     while i < 32 {
-        if 200 < count_at(atoms, bonds, 1 + i) {
+        let n = if i < 10 {
+            atoms.count[i]
+        } else {
+            bonds.count[i - 10]
+        };
+        if 200 < n {
             return i as u64 + 1;
         }
         i += 1;

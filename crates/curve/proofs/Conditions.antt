@@ -1,18 +1,18 @@
 -- Both questions as a condition in whole numbers, and what they are answered.
-use mathlib.Core.Path.{_≡_, refl, sym, _∙_}
-use mathlib.Core.Bool.{Bool, true, false, _||_}
+use mathlib.Core.Path.{_≡_, sym, _∙_}
+use mathlib.Core.Bool.{true, false}
 use mathlib.Core.Option.{some}
 use Prim.Native.Nat.{ℕ, _+_, _*_, _≤_, _<_}
 use native.Mathlib.Decide.{decLt}
 use native.Mathlib.Omega.{arith}
-use borrow.Author.Tests.{le-leb, lt-leb, ltb-false}
-use lib.Dec.{leb, ltb}
+use borrow.Author.Tests.{le-leb, lt-leb}
+use lib.Dec.{leb}
 use lib.IntN.{pos}
 use Rattle.refusal.specs.declared.Figure.{Figure}
 use Rattle.refusal.specs.Numbers.{unknownMethod, diffusionOutside}
 use Rattle.refusal.specs.Outcome.{refused, refusal, shownFigure}
+use Rattle.refusal.specs.Within.{notWithin}
 use Rattle.refusal.proofs.Outcomes.{figure-refused, figure-answered}
-use Rattle.refusal.proofs.Tests.{never}
 use Rattle.rounding.specs.Fraction.{_over_, whole, _⊠_, atMost}
 use Rattle.formula.specs.declared.Atoms.{Atoms}
 use Rattle.oxygen.specs.Admission.{admission}
@@ -26,7 +26,7 @@ use Rattle.limits.proofs.Concentrations.{limits-refused, limits-answered, rate-
 use Rattle.curve.specs.declared.Condition.{Condition}
 use Rattle.curve.specs.Curve.{Curve, onCurve}
 use Rattle.curve.specs.Held.{holds}
-use Rattle.curve.specs.Questions.{reaches, lowerTemperatureLimit, threshold, ignites, purposeOf, outside, flashByCurve}
+use Rattle.curve.specs.Questions.{reaches, lowerTemperatureLimit, threshold, ignites, purposeOf, flashByCurve}
 use Rattle.curve.proofs.Checks.{onCurve-alike}
 
 leb-same : (a b c d : ℕ) → (a ≤ b → c ≤ d) → (c ≤ d → a ≤ b) → leb a b ≡ leb c d
@@ -39,15 +39,6 @@ leb-same a b c d h g = go (decLt b a)
         back (yes m) = m
         back (no m) = absurd (let k = g (omega arith) in omega arith)
     go (no l) = le-leb a b (omega arith) ∙ sym (le-leb c d (h (omega arith)))
-
-pub inside : (last k : ℕ) → outside last k ≡ false → k ≤ last
-unfolding outside
-inside last k e = go (ltb k 1) (ltb last k) refl e
-  where
-    go : (a b : Bool) → ltb last k ≡ b → (a || b) ≡ false → k ≤ last
-    go true b p q = never true refl q
-    go false true p q = never true refl q
-    go false false p q = ltb-false last k p
 
 abbrev pub byPressure : ℕ → Condition
 byPressure limit = record { slope = 0; base = 100; level = 1013 * limit }
@@ -79,22 +70,22 @@ module _ (a : Atoms) (k : Curve) (given : Limits) (e : given ≡ shownLimits (fu
 
 -- formula (35)
 module _ (m : ℕ) (a : Atoms) (diffusion : ℕ) (k : Curve) where
-  pub unknown-method : outside 3 m ≡ true → flashByCurve m a diffusion k ≡ refused (refusal unknownMethod 0)
+  pub unknown-method : notWithin 3 m ≡ true → flashByCurve m a diffusion k ≡ refused (refusal unknownMethod 0)
   unfolding flashByCurve
   unknown-method o = rw o
 
   -- where β was answered as `given`
-  module _ (known : outside 3 m ≡ false) (given : Figure) (e : given ≡ shownFigure (admission (purposeOf m) a)) where
+  module _ (known : notWithin 3 m ≡ false) (given : Figure) (e : given ≡ shownFigure (admission (purposeOf m) a)) where
     pub oxygen-refused : 0 < given .refusal .number → flashByCurve m a diffusion k ≡ refused (given .refusal)
     unfolding flashByCurve
     oxygen-refused l = rw (known, figure-refused (admission (purposeOf m) a) given e l)
 
     module _ (l : given .refusal .number ≤ 0) where
-      pub diffusion-outside : outside 20000 diffusion ≡ true → flashByCurve m a diffusion k ≡ refused (refusal diffusionOutside 0)
+      pub diffusion-outside : notWithin 20000 diffusion ≡ true → flashByCurve m a diffusion k ≡ refused (refusal diffusionOutside 0)
       unfolding flashByCurve
       diffusion-outside o = rw (known, figure-answered (admission (purposeOf m) a) given e (admission-numbered (purposeOf m) a) l, o)
 
-      pub flash-answered : outside 20000 diffusion ≡ false → onCurve (holds (byProduct (threshold m) diffusion (given .value))) k ≡ flashByCurve m a diffusion k
+      pub flash-answered : notWithin 20000 diffusion ≡ false → onCurve (holds (byProduct (threshold m) diffusion (given .value))) k ≡ flashByCurve m a diffusion k
       unfolding flashByCurve
       flash-answered o =
           rw (known, figure-answered (admission (purposeOf m) a) given e (admission-numbered (purposeOf m) a) l, o)

@@ -5,8 +5,9 @@ use mathlib.Core.List.{List}
 use mathlib.Core.Option.{Option, none}
 use Prim.Native.Nat.{ℕ, _+_, _-_, _*_, _/_, _≤_}
 use lib.Dec.{leb, ltb, eqb}
-use lib.IntN.{ℤ, pos}
+use lib.IntN.{ℤ, pos, negℤ}
 use lib.ListN.{length, getD}
+use lib.Signed.{leZ}
 use Rattle.refusal.specs.Numbers.{badCurve}
 use Rattle.refusal.specs.Lowest.{lowest}
 use Rattle.refusal.specs.Outcome.{Outcome, answered, refuse, refuseAt}
@@ -24,8 +25,12 @@ curve ts ps = record { temperatures = ts; pressures = ps }
 abbrev pub points : Curve → ℕ
 points c = length (c .temperatures)
 
+-- the temperature of point i, and the same counted from −273 °C
+abbrev pub degrees : Curve → ℕ → ℤ
+degrees c i = getD (c .temperatures) i (pos 0)
+
 abbrev pub temperature : Curve → ℕ → ℕ
-temperature c i = kelvin (getD (c .temperatures) i (pos 0))
+temperature c i = kelvin (degrees c i)
 
 abbrev pub pressure : Curve → ℕ → ℕ
 pressure c i = getD (c .pressures) i 0
@@ -37,14 +42,14 @@ sizes n m = eqb n m && (leb 2 n && leb n 4096)
 abbrev pub sized : Curve → Bool
 sized c = sizes (length (c .temperatures)) (length (c .pressures))
 
--- temperature −200.00 to 600.00, which is 73.00 to 873.00 above −273; pressure 1 to 250,000
-unfoldable pub inRange : ℕ → ℕ → Bool
-inRange t p = (leb 7300 t && leb t 87300) && (leb 1 p && leb p 250000)
+-- temperature −200.00 to 600.00, pressure 1 to 250,000
+unfoldable pub inRange : ℤ → ℕ → Bool
+inRange t p = (leZ (negℤ (pos 20000)) t && leZ t (pos 60000)) && (leb 1 p && leb p 250000)
 
 -- a point is bad if out of range or not above the one before
 unfoldable pub badPoint : Curve → ℕ → Bool
 badPoint c i =
-    not (inRange (temperature c i) (pressure c i)
+    not (inRange (degrees c i) (pressure c i)
     && (eqb i 0 || (ltb (temperature c (i - 1)) (temperature c i) && ltb (pressure c (i - 1)) (pressure c i))))
 
 unfoldable pub firstBad : Curve → Option ℕ

@@ -1,11 +1,12 @@
 -- The two questions of a curve: the lower temperature limit, and formula (35) (document 01, "The vapour curve").
-use mathlib.Core.Bool.{Bool, cond, _||_}
+use mathlib.Core.Bool.{cond}
 use mathlib.Core.Option.{some}
 use Prim.Native.Nat.{ℕ}
-use lib.Dec.{ltb, eqb}
+use lib.Dec.{eqb}
 use lib.IntN.{ℤ, pos}
 use Rattle.refusal.specs.Numbers.{unknownMethod, diffusionOutside}
 use Rattle.refusal.specs.Outcome.{Outcome, refuse, andThen}
+use Rattle.refusal.specs.Within.{notWithin}
 use Rattle.rounding.specs.Fraction.{_over_, whole, _⊠_, atMost}
 use Rattle.formula.specs.declared.Atoms.{Atoms}
 use Rattle.oxygen.specs.declared.Purpose.{Purpose}
@@ -36,13 +37,9 @@ ignites m diffusion q t p = atMost (whole (threshold m)) ((t over 100) ⊠ (p ov
 abbrev pub purposeOf : ℕ → Purpose
 purposeOf m = cond (eqb m 3) FirePoint OxygenCoefficient
 
--- not from 1 to last
-unfoldable pub outside : ℕ → ℕ → Bool
-outside last k = ltb k 1 || ltb last k
-
 unfoldable pub flashByCurve : ℕ → Atoms → ℕ → Curve → Outcome ℤ
 flashByCurve m a diffusion c =
-    refuse unknownMethod 0 (outside 3 m)
+    refuse unknownMethod 0 (notWithin 3 m)
     (andThen (admission (purposeOf m) a) (λ q.
-    refuse diffusionOutside 0 (outside 20000 diffusion)
+    refuse diffusionOutside 0 (notWithin 20000 diffusion)
     (onCurve (ignites m diffusion q) c)))

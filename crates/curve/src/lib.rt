@@ -5,11 +5,11 @@ ghost use mathlib.Core.Bool.{true, false};
 ghost use Prim.Native.Nat.{_≤_, _<_};
 ghost use lib.IntN.{pos};
 ghost use lib.ListN.{length, getD};
-ghost use Rattle.refusal.specs.Outcome.{refused, refusal, shownTemperature};
+ghost use Rattle.refusal.specs.Outcome.{shownTemperature};
 ghost use Rattle.curve.specs.Smallest.{kelvin as kelvinOf, celsius as celsiusOf, smallest, met};
-ghost use Rattle.curve.specs.Curve.{curve, sizes, inRange, badPoint, between, segment, Accepted, searchedOn, onCurve, Sound};
-ghost use Rattle.curve.specs.Held.{holds, Bounded, Sloped, indexOf};
-ghost use Rattle.curve.specs.Questions.{lowerTemperatureLimit, flashByCurve, threshold, purposeOf, outside};
+ghost use Rattle.curve.specs.Curve.{curve, sizes, between, segment, Accepted, onCurve, Sound};
+ghost use Rattle.curve.specs.Held.{holds, Bounded, Sloped, above, indexOf, FoundOn};
+ghost use Rattle.curve.specs.Questions.{lowerTemperatureLimit, flashByCurve, threshold, purposeOf};
 use formula::Atoms;
 use limits::fuel_limits_at;
 use oxygen::FIT_TEMPERATURE;
@@ -17,6 +17,8 @@ use oxygen::Purpose;
 use oxygen::admit;
 use refusal::Refusal;
 use refusal::Temperature;
+use refusal::is_not_within;
+use refusal::refused_temperature;
 use rounding::divide;
 use rounding::size;
 
@@ -35,13 +37,10 @@ pub struct Segment {
     pub high: u64,
 }
 
-fn refuse(number: u64, place: u64) -> Temperature
-    ensures { λ r. ⌜ r ≡ shownTemperature (refused (refusal number place)) ⌝ }
-{
-    Temperature {
-        refusal: Refusal { number, place },
-        value: 0,
-    }
+// What a search finds: the point at which the segment of the answer ends, 0 with a refusal; and the answer.
+struct Found {
+    segment: usize,
+    temperature: Temperature,
 }
 
 // A temperature in hundredths of °C, counted from −273 °C; 0 below.
@@ -66,21 +65,6 @@ fn celsius(k: u64) -> i64
     k as i64 - 27300
 }
 
-fn in_range(t: u64, p: u64) -> bool
-    ensures { λ r. ⌜ r ≡ inRange t p ⌝ }
-{
-    if t < 7300 {
-        return false;
-    }
-    if 87300 < t {
-        return false;
-    }
-    if p < 1 {
-        return false;
-    }
-    p <= 250000
-}
-
 // The temperature of point i.
 fn temperature_at(temperatures: &[i64], i: usize) -> u64
     requires { ⌜ i < length (now temperatures) ⌝ }
@@ -89,23 +73,20 @@ fn temperature_at(temperatures: &[i64], i: usize) -> u64
     kelvin(temperatures[i])
 }
 
-// Whether point i is out of range or not above the one before.
-fn is_bad(temperatures: &[i64], pressures: &[u64], i: usize) -> bool
-    requires { ⌜ (i < length (now temperatures)) × (i < length (now pressures)) ⌝ }
-    ensures { λ r. ⌜ r ≡ badPoint (curve (now (temperatures .entry)) (now (pressures .entry))) i ⌝ }
+// Whether a point is in range and above the one before, t0 and p0; 72.99 and 0 stand before the first.
+fn is_above(t0: u64, p0: u64, t: u64, p: u64) -> bool
+    ensures { λ r. ⌜ r ≡ above t0 p0 t p ⌝ }
 {
-    let t = temperature_at(temperatures, i);
-    let p = pressures[i];
-    if !in_range(t, p) {
-        return true;
-    }
-    if i == 0 {
+    if t <= t0 {
         return false;
     }
-    if t <= temperature_at(temperatures, i - 1) {
-        return true;
+    if 87300 < t {
+        return false;
     }
-    p <= pressures[i - 1]
+    if p <= p0 {
+        return false;
+    }
+    p <= 250000
 }
 
 // The first bad point, or the number of points.
@@ -113,11 +94,17 @@ fn first_bad(temperatures: &[i64], pressures: &[u64]) -> usize
     requires { ⌜ length (now temperatures) ≡ length (now pressures) ⌝ }
     ensures { λ r. ⌜ r ≡ indexOf (curve (now (temperatures .entry)) (now (pressures .entry))) ⌝ }
 {
+    let mut t0: u64 = 7299;
+    let mut p0: u64 = 0;
     let mut i: usize = 0;
     while i < temperatures.len() {
-        if is_bad(temperatures, pressures, i) {
+        let t = temperature_at(temperatures, i);
+        let p = pressures[i];
+        if !is_above(t0, p0, t, p) {
             return i;
         }
+        t0 = t;
+        p0 = p;
         i += 1;
     }
     i
@@ -174,26 +161,35 @@ fn segment_at(temperatures: &[i64], pressures: &[u64], i: usize) -> Segment
 }
 
 // The search over an accepted curve: over its segments, then over the hundredths of the first that ends where the condition holds.
-fn search(temperatures: &[i64], pressures: &[u64], c: Condition) -> Temperature
+fn search(temperatures: &[i64], pressures: &[u64], c: Condition) -> Found
     requires { ⌜ (Bounded c) × Accepted (curve (now temperatures) (now pressures)) ⌝ }
-    ensures { λ r. ⌜ r ≡ shownTemperature (searchedOn (holds c) (curve (now (temperatures .entry)) (now (pressures .entry)))) ⌝ }
+    ensures { λ r. ⌜ FoundOn c (curve (now (temperatures .entry)) (now (pressures .entry))) r ⌝ }
 {
     let mut i: usize = 0;
     let found = loop {
         if temperatures.len() <= i {
-            break refuse(refusal::FALSE_AT_LAST, 0);
+            break Found {
+                segment: 0,
+                temperature: refused_temperature(refusal::FALSE_AT_LAST, 0),
+            };
         }
         if is_met(c, temperature_at(temperatures, i), pressures[i]) {
             if i == 0 {
-                break refuse(refusal::TRUE_AT_FIRST, 0);
+                break Found {
+                    segment: 0,
+                    temperature: refused_temperature(refusal::TRUE_AT_FIRST, 0),
+                };
             }
             let t = hundredth(c, segment_at(temperatures, pressures, i));
-            break Temperature {
-                refusal: Refusal {
-                    number: 0,
-                    place: 0,
+            break Found {
+                segment: i,
+                temperature: Temperature {
+                    refusal: Refusal {
+                        number: 0,
+                        place: 0,
+                    },
+                    value: celsius(t),
                 },
-                value: celsius(t),
             };
         }
         i += 1;
@@ -220,13 +216,13 @@ fn on_curve(temperatures: &[i64], pressures: &[u64], c: Condition) -> Temperatur
     ensures { λ r. ⌜ r ≡ shownTemperature (onCurve (holds c) (curve (now (temperatures .entry)) (now (pressures .entry)))) ⌝ }
 {
     if !is_sized(temperatures.len(), pressures.len()) {
-        return refuse(refusal::BAD_CURVE, 0);
+        return refused_temperature(refusal::BAD_CURVE, 0);
     }
     let bad = first_bad(temperatures, pressures);
     if bad < temperatures.len() {
-        return refuse(refusal::BAD_CURVE, bad as u64);
+        return refused_temperature(refusal::BAD_CURVE, bad as u64);
     }
-    search(temperatures, pressures, c)
+    search(temperatures, pressures, c).temperature
 }
 
 // The lower temperature limit of a fuel. Refusals 2, 3, 4 as for limits, then 11, 12, 13.
@@ -237,7 +233,7 @@ pub fn lower_temperature_limit(fuel: Atoms, temperatures: &[i64], pressures: &[u
     let limits = fuel_limits_at(fuel, FIT_TEMPERATURE);
     let declined = limits.refusal;
     if 0 < declined.number {
-        return refuse(declined.number, declined.place);
+        return refused_temperature(declined.number, declined.place);
     }
     let c = Condition {
         slope: 0,
@@ -268,16 +264,6 @@ fn purpose_of(method: u64) -> Purpose
     Purpose::OxygenCoefficient
 }
 
-// Whether a number is not from 1 to last.
-fn is_outside(last: u64, k: u64) -> bool
-    ensures { λ r. ⌜ r ≡ outside last k ⌝ }
-{
-    if k < 1 {
-        return true;
-    }
-    last < k
-}
-
 // Formula (35): method 1 closed cup, 2 open cup, 3 fire point; the diffusion coefficient in units of 0.0001 cm²/s.
 // Refusals 16, 2, 3, 4, 18, 11, 12, 13.
 pub fn flash_by_curve(
@@ -290,16 +276,16 @@ pub fn flash_by_curve(
     ensures { λ r. ⌜ r ≡ shownTemperature (flashByCurve method fuel diffusion (curve (now (temperatures .entry)) (now (pressures .entry)))) ⌝ }
     ensures sound { λ _. ⌜ Sound (curve (now (temperatures .entry)) (now (pressures .entry))) ⌝ }
 {
-    if is_outside(3, method) {
-        return refuse(refusal::UNKNOWN_METHOD, 0);
+    if is_not_within(3, method) {
+        return refused_temperature(refusal::UNKNOWN_METHOD, 0);
     }
     let oxygen = admit(purpose_of(method), fuel);
     let declined = oxygen.refusal;
     if 0 < declined.number {
-        return refuse(declined.number, declined.place);
+        return refused_temperature(declined.number, declined.place);
     }
-    if is_outside(20000, diffusion) {
-        return refuse(refusal::DIFFUSION_OUTSIDE, 0);
+    if is_not_within(20000, diffusion) {
+        return refused_temperature(refusal::DIFFUSION_OUTSIDE, 0);
     }
     let c = Condition {
         slope: diffusion * oxygen.value,

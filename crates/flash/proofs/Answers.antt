@@ -8,12 +8,13 @@ use lib.IntN.{ℤ, pos}
 use Rattle.refusal.specs.Numbers.{countTooLarge, hydrogenDiffers as H-differs, noCoefficient as no-coefficient, boilingPointOutside, unknownMethod}
 use Rattle.refusal.specs.Lowest.{orZero}
 use Rattle.refusal.specs.Outcome.{refused, answered, refusal}
+use Rattle.refusal.specs.Within.{notWithin}
 use Rattle.refusal.proofs.Lowest.{found-some, found-none}
 use Rattle.rounding.specs.Round.{roundDivℤ}
 use Rattle.formula.specs.declared.Atoms.{Atoms}
 use Rattle.bonds.specs.declared.Bonds.{Bonds}
 use Rattle.bonds.specs.Kinds.{aboveAt, hydrogenDiffers}
-use Rattle.flash.specs.Points.{unknown, outside, noCoefficientAt, terms, classTerms, sumFrom, byBonds, byClass}
+use Rattle.flash.specs.Points.{outside, noCoefficientAt, terms, classTerms, sumFrom, byBonds, byClass}
 
 found-at : (o : Option ℕ) (n : ℕ) → n ≡ orZero o → 0 < n → o ≡ some n
 found-at o n e l = found-some o (omega arith) ∙ ap some (sym e)
@@ -24,18 +25,18 @@ none-missing m b z = found-none _ 22 z
 
 -- method, atoms and bonds that are not refused
 pub record Accepted (m : ℕ) (a : Atoms) (b : Bonds) : Type 0 where
-  pub known : unknown 3 m ≡ false
+  pub known : notWithin 3 m ≡ false
   pub few : aboveAt a b ≡ none
   pub agree : hydrogenDiffers a b ≡ false
   pub no-blank : noCoefficientAt m b ≡ none
 
 -- BY BONDS
 module _ (m : ℕ) (a : Atoms) (b : Bonds) (t : ℤ) where
-  pub bonds-unknown : unknown 3 m ≡ true → refused (refusal unknownMethod 0) ≡ byBonds m a b t
+  pub bonds-unknown : notWithin 3 m ≡ true → refused (refusal unknownMethod 0) ≡ byBonds m a b t
   unfolding byBonds
   bonds-unknown e = rw e
 
-  module _ (known : unknown 3 m ≡ false) where
+  module _ (known : notWithin 3 m ≡ false) where
     pub bonds-above : (over : ℕ) → over ≡ orZero (aboveAt a b) → 0 < over → refused (refusal countTooLarge over) ≡ byBonds m a b t
     unfolding byBonds
     bonds-above over e l = rw (known, found-at (aboveAt a b) over e l)
@@ -60,11 +61,11 @@ module _ (m : ℕ) (a : Atoms) (b : Bonds) (t : ℤ) where
 
 -- BY CLASS
 module _ (k : ℕ) (t : ℤ) where
-  pub class-unknown : unknown 10 k ≡ true → refused (refusal unknownMethod 0) ≡ byClass k t
+  pub class-unknown : notWithin 10 k ≡ true → refused (refusal unknownMethod 0) ≡ byClass k t
   unfolding byClass
   class-unknown e = rw e
 
-  module _ (known : unknown 10 k ≡ false) where
+  module _ (known : notWithin 10 k ≡ false) where
     pub class-outside : outside t ≡ true → refused (refusal boilingPointOutside 0) ≡ byClass k t
     unfolding byClass
     class-outside e = rw (known, e)

@@ -3,13 +3,15 @@ use mathlib.Core.Path.{_≡_, refl}
 use mathlib.Core.Bool.{Bool, true, false, _&&_}
 use mathlib.Core.List.{List, [], _∷_}
 use mathlib.Core.Option.{Option, none}
-use Prim.Native.Nat.{ℕ, zero, suc, _-_, _≤_}
+use Prim.Native.Nat.{ℕ, zero, suc, _+_, _-_, _≤_}
+use native.Mathlib.Omega.{arith}
 use lib.Dec.{T, leb, eqb, leb→le}
 use lib.IntN.{ℤ, pos, natAbs}
-use lib.ListN.{getD}
+use lib.ListN.{getD, List·getD-map}
 use mir.Facts.{and-yes}
 use Rattle.flash.specs.Tables.{coefficients, methods, classes}
 use Rattle.flash.specs.Points.{entry, coefficient, orNothing, isBlank}
+use Rattle.flash.specs.Held.{column}
 
 -- a test that passes at each entry passes wherever a table is entered, and past its end where it passes the default
 module _ {A : Type 0} where
@@ -31,9 +33,11 @@ pub coefficient-small : (m j : ℕ) → natAbs (orNothing (coefficient m j)) ≤
 unfolding all coefficients
 coefficient-small m j = leb→le _ _ (at₂ (λ (o : Option ℤ). leb (natAbs (orNothing o)) 50490) none tt coefficients tt (j - 1) (m - 1))
 
--- what is promised of a number that is the coefficient
-pub coefficient-is : (m j : ℕ) (z : ℤ) → z ≡ orNothing (coefficient m j) → (z ≡ orNothing (coefficient m j)) × (natAbs z ≤ 50490)
-coefficient-is m j z e = (e, rw e (coefficient-small m j))
+-- the entry of a column
+pub column-at : (m i : ℕ) → getD (column m) i (pos 0) ≡ orNothing (coefficient m (1 + i))
+column-at m i =
+    let index : 1 + i - 1 ≡ i = omega arith in
+    rw index (List·getD-map (λ (row : List (Option ℤ)). orNothing (getD row (m - 1) none)) coefficients i [])
 
 small : ℤ → Bool
 small z = leb (natAbs z) 100000

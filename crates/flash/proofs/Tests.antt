@@ -1,39 +1,22 @@
--- The tests of refusals 16, 7 and 6 as the code makes them, and what holds where 16 and 7 are not given.
-use mathlib.Core.Path.{_≡_, refl}
-use mathlib.Core.Bool.{Bool, true, false, _||_}
-use Prim.Native.Nat.{ℕ, _≤_, _<_}
+-- The tests of refusals 7 and 6 as the code makes them, and what holds where 16 and 7 are not given.
+use mathlib.Core.Path.{_≡_}
+use mathlib.Core.Bool.{true, false}
+use Prim.Native.Nat.{ℕ, _+_, _-_, _≤_, _<_}
 use native.Mathlib.Omega.{arith}
 use lib.Dec.{ltb, eqb}
 use lib.IntN.{ℤ, pos, negsuc, negℤ, natAbs}
+use lib.ListN.{getD}
 use lib.Signed.{ltZ}
 use borrow.Author.Tests.{lt-ltb, le-ltb, ltb-false}
-use Rattle.refusal.proofs.Tests.{never}
+use Rattle.refusal.specs.Within.{notWithin}
+use Rattle.refusal.proofs.Tests.{neither, within}
 use Rattle.bonds.specs.declared.Bonds.{Bonds}
-use Rattle.bonds.specs.Kinds.{bondsAt}
-use Rattle.flash.specs.Points.{coefficient, orNothing, unknown, outside, missing}
-use Rattle.flash.specs.Held.{Method}
-use Rattle.flash.proofs.Entries.{blank-zero}
+use Rattle.flash.specs.Points.{outside, missing}
+use Rattle.flash.specs.Held.{Method, column, blank}
+use Rattle.flash.proofs.Entries.{column-at, blank-zero}
 
--- an `or` that is false
-neither : (a b : Bool) → (a || b) ≡ false → (a ≡ false) × (b ≡ false)
-neither true b e = never true refl e
-neither false b e = (refl, e)
-
-module _ (last k : ℕ) where
-  pub unknown-below : k < 1 → true ≡ unknown last k
-  unfolding unknown
-  unknown-below l = rw (lt-ltb k 1 l)
-
-  pub unknown-above : 1 ≤ k → ltb last k ≡ unknown last k
-  unfolding unknown
-  unknown-above l = rw (le-ltb k 1 l)
-
-  pub known : unknown last k ≡ false → (1 ≤ k) × (k ≤ last)
-  unfolding unknown
-  known e = let n = neither (ltb k 1) (ltb last k) e in (ltb-false k 1 (n .0), ltb-false last k (n .1))
-
-pub admitted-method : (m : ℕ) → unknown 3 m ≡ false → Method m
-admitted-method m e = let h = known 3 m e in record { from = h .0; to = h .1 }
+pub admitted-method : (m : ℕ) → notWithin 3 m ≡ false → Method m
+admitted-method m e = let h = within 3 m e in record { from = h .0; to = h .1 }
 
 pub outside-below : (t : ℤ) → ltZ t (negℤ (pos 20000)) ≡ true → true ≡ outside t
 unfolding outside
@@ -48,11 +31,15 @@ unfolding outside
 inside (pos n) e = ltb-false 60000 n e
 inside (negsuc n) e = omega (arith, ltb-false 19999 n (neither (ltb 19999 n) false e .0))
 
-module _ (m : ℕ) (b : Bonds) (j : ℕ) where
-  pub missing-no-bond : bondsAt b j ≡ 0 → false ≡ missing m b j
-  unfolding missing
-  missing-no-bond z = rw (le-ltb 0 (bondsAt b j) (omega arith))
+-- a blank that is needed, of n bonds and their coefficient
+pub blank-none : (n : ℕ) (a : ℤ) → n ≡ 0 → false ≡ blank n a
+blank-none n a z = rw (le-ltb 0 n (omega arith))
 
-  pub missing-bond : 0 < bondsAt b j → (a : ℤ) → a ≡ orNothing (coefficient m j) → eqb (natAbs a) 0 ≡ missing m b j
-  unfolding missing
-  missing-bond l a e = rw (lt-ltb 0 (bondsAt b j) l, e) (blank-zero m j)
+pub blank-some : (n : ℕ) (a : ℤ) → 0 < n → eqb (natAbs a) 0 ≡ blank n a
+blank-some n a l = rw (lt-ltb 0 n l)
+
+pub blank-missing : (m : ℕ) (b : Bonds) (i : ℕ) → blank (getD (b .count) i 0) (getD (column m) i (pos 0)) ≡ missing m b (1 + i)
+unfolding missing
+blank-missing m b i =
+    let index : 1 + i - 1 ≡ i = omega arith in
+    rw (column-at m i, blank-zero m (1 + i), index)

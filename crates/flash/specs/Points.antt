@@ -10,6 +10,7 @@ use lib.Signed.{ltZ}
 use Rattle.refusal.specs.Numbers.{countTooLarge, hydrogenDiffers as H-differs, noCoefficient as no-coefficient, boilingPointOutside, unknownMethod}
 use Rattle.refusal.specs.Lowest.{lowest}
 use Rattle.refusal.specs.Outcome.{Outcome, answered, refuse, refuseAt}
+use Rattle.refusal.specs.Within.{notWithin}
 use Rattle.rounding.specs.Round.{roundDivℤ}
 use Rattle.formula.specs.declared.Atoms.{Atoms}
 use Rattle.bonds.specs.declared.Bonds.{Bonds}
@@ -33,9 +34,6 @@ isBlank (some a) = false
 isBlank none = true
 
 -- REFUSALS
-unfoldable pub unknown : ℕ → ℕ → Bool
-unknown last k = ltb k 1 || ltb last k
-
 -- outside −200.00 to 600.00
 unfoldable pub outside : ℤ → Bool
 outside t = ltZ t (negℤ (pos 20000)) || ltZ (pos 60000) t
@@ -77,7 +75,7 @@ rounded xs = roundDivℤ (sumFrom (pos 0) xs) 1000
 -- formula (33), with its refusals in their order
 unfoldable pub byBonds : ℕ → Atoms → Bonds → ℤ → Outcome ℤ
 byBonds m a b t =
-    refuse unknownMethod 0 (unknown 3 m)
+    refuse unknownMethod 0 (notWithin 3 m)
     (refuseAt countTooLarge (aboveAt a b)
     (refuse H-differs 0 (hydrogenDiffers a b)
     (refuseAt no-coefficient (noCoefficientAt m b)
@@ -90,6 +88,6 @@ classTerms k t = constantTerm (entry classes k 0) ∷ boilingTerm (entry classes
 
 unfoldable pub byClass : ℕ → ℤ → Outcome ℤ
 byClass k t =
-    refuse unknownMethod 0 (unknown 10 k)
+    refuse unknownMethod 0 (notWithin 10 k)
     (refuse boilingPointOutside 0 (outside t)
     (answered (rounded (classTerms k t))))

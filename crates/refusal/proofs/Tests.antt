@@ -1,8 +1,11 @@
--- Laws of tests: a test has one value, and a choice by a test whose value is known.
+-- Laws of tests: a test has one value, a choice by a test whose value is known, and what follows from a compound test.
 use mathlib.Core.Path.{_≡_, refl}
-use mathlib.Core.Bool.{Bool, true, false, _&&_}
-use Prim.Native.Nat.{ℕ}
+use mathlib.Core.Bool.{Bool, true, false, _&&_, _||_}
+use Prim.Native.Nat.{ℕ, _≤_}
 use native.Mathlib.Omega.{arith}
+use lib.Dec.{ltb}
+use borrow.Author.Tests.{ltb-false}
+use Rattle.refusal.specs.Within.{notWithin}
 
 pub never : {A : Type 0} (b : Bool) → b ≡ true → b ≡ false → A
 never b p q = absurd (apart p q)
@@ -26,3 +29,11 @@ if-false false x y e = refl
 pub both : (a b : Bool) → a && b ≡ true → (a ≡ true) × (b ≡ true)
 both true b e = (refl, e)
 both false b e = never false e refl
+
+pub neither : (a b : Bool) → (a || b) ≡ false → (a ≡ false) × (b ≡ false)
+neither true b e = never true refl e
+neither false b e = (refl, e)
+
+pub within : (last k : ℕ) → notWithin last k ≡ false → (1 ≤ k) × (k ≤ last)
+unfolding notWithin
+within last k e = let n = neither (ltb k 1) (ltb last k) e in (ltb-false k 1 (n .0), ltb-false last k (n .1))

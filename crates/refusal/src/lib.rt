@@ -1,4 +1,7 @@
-// Refusals: a number of document 01's table and a place; a figure or a refusal.
+// Refusals: a number of document 01's table and a place; a figure or a refusal; numbers from 1 to a last one.
+ghost use mathlib.Core.Path.{_≡_};
+ghost use Rattle.refusal.specs.Outcome.{refused, refusal, shownTemperature};
+ghost use Rattle.refusal.specs.Within.{notWithin};
 
 // Number 0, place 0: not refused.
 #[repr(C)]
@@ -59,3 +62,23 @@ pub const NO_ROOM: u64 = 17;
 pub const DIFFUSION_OUTSIDE: u64 = 18;
 
 pub const BLEND_OUT_OF_BOUNDS: u64 = 28;
+
+// A refused temperature.
+pub fn refused_temperature(number: u64, place: u64) -> Temperature
+    ensures { λ r. ⌜ r ≡ shownTemperature (refused (refusal number place)) ⌝ }
+{
+    Temperature {
+        refusal: Refusal { number, place },
+        value: 0,
+    }
+}
+
+// Whether a number is not from 1 to last.
+pub fn is_not_within(last: u64, k: u64) -> bool
+    ensures { λ r. ⌜ r ≡ notWithin last k ⌝ }
+{
+    if k < 1 {
+        return true;
+    }
+    last < k
+}

@@ -25,14 +25,14 @@ asked c = c .fuel-limits-at .ensures .0
 fuel-limits-at-requires : tie.Need-fuel-limits-at-requires
 fuel-limits-at-requires c κs = search needs
 
-refuse-requires : tie.Need-refuse-requires
-refuse-requires c κs = search needs
+refused-temperature-requires : tie.Need-refused-temperature-requires
+refused-temperature-requires c κs = search needs
 
 returns : tie.Need-returns
 returns c =
     let l = c .before .before .before .before in
     let s = l .before .before in
-    (c .refuse .ensures ∙ sym (ap shownTemperature (lower-refused (s .args .fuel) (lent s) _ (asked l) (omega arith))), sound (lent s))
+    (c .refused-temperature .ensures ∙ sym (ap shownTemperature (lower-refused (s .args .fuel) (lent s) _ (asked l) (omega arith))), sound (lent s))
 
 mul-t8 : tie.Need-mul-t8
 mul-t8 c =
@@ -52,4 +52,4 @@ returns-2 c =
 pub lower-temperature-limit-spec : {M : Type 1} → statement M
 lower-temperature-limit-spec =
     tie.close
-    (tie.spec fuel-limits-at-requires refuse-requires returns mul-t8 on-curve-requires returns-2)
+    (tie.spec fuel-limits-at-requires refused-temperature-requires returns mul-t8 on-curve-requires returns-2)

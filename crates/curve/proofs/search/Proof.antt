@@ -14,10 +14,10 @@ use mir.Facts.{toZ-ofZ}
 use Rattle.refusal.specs.Outcome.{answered, shownTemperature}
 use Rattle.curve.specs.Smallest.{celsius, smallest, met}
 use Rattle.curve.specs.Curve.{Curve, curve, temperature, pressure, between, segment}
-use Rattle.curve.specs.Held.{holds}
+use Rattle.curve.specs.Held.{holds, Crossed}
 use Rattle.curve.proofs.Smallest.{is-smallest}
 use Rattle.curve.proofs.Curves.{range, goes-up}
-use Rattle.curve.proofs.Searches.{Crossed, search-first, search-last, search-in, starts-unmet, ends-met}
+use Rattle.curve.proofs.Searches.{refuses, search-first, search-last, search-in, starts-unmet, ends-met}
 use Rattle.curve.proofs.search.Statement.{statement}
 use Rattle.curve.proofs.search.Tie as tie
 
@@ -34,8 +34,8 @@ lent s = curve (now (s .args .temperatures)) (now (s .args .pressures))
 loop-holds : tie.Need-loop-holds Inv-loop μ-loop
 loop-holds c = (omega arith, λ k h. absurd (omega arith))
 
-refuse-requires : tie.Need-refuse-requires Inv-loop μ-loop
-refuse-requires c κs = tt
+refused-temperature-requires : tie.Need-refused-temperature-requires Inv-loop μ-loop
+refused-temperature-requires c κs = tt
 
 temperature-at-requires : tie.Need-temperature-at-requires Inv-loop μ-loop
 temperature-at-requires c κs = omega arith
@@ -58,8 +58,8 @@ test : (c : tie.After-is-met Inv-loop μ-loop) → let at = c .before .before .b
     c .is-met .result ≡ holds (s .args .c) (temperature (lent s) (at .loop .i)) (pressure (lent s) (at .loop .i))
 test c = cc
 
-refuse-requires-2 : tie.Need-refuse-requires-2 Inv-loop μ-loop
-refuse-requires-2 c κs = tt
+refused-temperature-requires-2 : tie.Need-refused-temperature-requires-2 Inv-loop μ-loop
+refused-temperature-requires-2 c κs = tt
 
 segment-at-requires : tie.Need-segment-at-requires Inv-loop μ-loop
 segment-at-requires c κs = (omega arith, omega arith, omega (arith, c .before .before .before .before .before .before .before .before .pre .1 .paired))
@@ -104,9 +104,9 @@ returns : tie.Need-returns Inv-loop μ-loop
 returns c =
     let at = c .before .before in
     let s = at .before .before in
-    let n = length (now (s .args .temperatures)) in
     let many = s .pre .1 .least in
-    c .refuse .ensures ∙ sym (ap shownTemperature (search-last (s .args .c) (lent s) (s .pre .1) (at .loop .inv .1 (n - 1) (omega arith))))
+    let last = at .loop .inv .1 (length (now (s .args .temperatures)) - 1) (omega arith) in
+    record { answer = c .refused-temperature .ensures ∙ sym (ap shownTemperature (search-last (s .args .c) (lent s) (s .pre .1) last)); crossed = refuses _ (c .refused-temperature .ensures) }
 
 returns-2 : tie.Need-returns-2 Inv-loop μ-loop
 returns-2 c =
@@ -114,7 +114,7 @@ returns-2 c =
     let at = m .before .before .before .before .before in
     let s = at .before .before in
     let here = rw (c .before .if3 .taken) at (sym (test (m .before)) ∙ m .if2 .taken) in
-    c .refuse2 .ensures ∙ sym (ap shownTemperature (search-first (s .args .c) (lent s) (s .pre .1) here))
+    record { answer = c .refused-temperature2 .ensures ∙ sym (ap shownTemperature (search-first (s .args .c) (lent s) (s .pre .1) here)); crossed = refuses _ (c .refused-temperature2 .ensures) }
 
 returns-3 : tie.Need-returns-3 Inv-loop μ-loop
 returns-3 c =
@@ -123,8 +123,8 @@ returns-3 c =
     let s = at .before .before in
     let fits : SFits w64 (c .celsius .result) = record { sfits = c .celsius .ok } in
     let here = toZ-ofZ fits ∙ c .celsius .ensures ∙ ap celsius (hundredth-is h) in
-    ap (λ (z : ℤ). shownTemperature (answered z)) here
-    ∙ sym (ap shownTemperature (search-in (s .args .c) (lent s) (s .pre .1) (at .loop .i) (crossed (h .before .before))))
+    let x = crossed (h .before .before) in
+    record { answer = ap (λ (z : ℤ). shownTemperature (answered z)) here ∙ sym (ap shownTemperature (search-in (s .args .c) (lent s) (s .pre .1) (at .loop .i) x)); crossed = λ e. x }
 
 pub search-spec : {M : Type 1} → statement M
 search-spec =
@@ -133,12 +133,12 @@ search-spec =
     Inv-loop
     μ-loop
     loop-holds
-    refuse-requires
+    refused-temperature-requires
     temperature-at-requires
     mul-is-met
     shared-slice-read-is-met
     is-met-requires
-    refuse-requires-2
+    refused-temperature-requires-2
     segment-at-requires
     hundredth-requires
     celsius-requires

@@ -7,28 +7,36 @@ use lib.IntN.{natAbs}
 use mir.Syntax.{w64}
 use mir.Val.{toZ}
 use Rattle.flash.specs.Tables.{methods}
-use Rattle.flash.specs.Points.{entry, sumFrom}
-use Rattle.flash.proofs.Terms.{Line, Next, method-line, next-facts}
+use Rattle.flash.specs.Points.{entry, bondTerm, sumFrom}
+use Rattle.flash.proofs.Terms.{Line, Next, method-line, entry-read, entry-bound, few-at, term-at, next-facts}
 use Rattle.flash.proofs.Sums.{bondTerms, sum-next, sum-end, sum-by-bonds}
 use Rattle.flash.proofs.bond_sum.Statement.{statement}
 use Rattle.flash.proofs.bond_sum.Tie as tie
 
 abbrev Inv-loop : tie.InvT-loop
-Inv-loop method bonds boiling sum₀ i₀ sum i =
+Inv-loop method boiling bonds sum₀ column i₀ sum i =
     (i ≤ 22)
     × (sumFrom (toZ w64 sum₀) (bondTerms method bonds 0) ≡ sumFrom (toZ w64 sum) (bondTerms method bonds i))
     × (natAbs (toZ w64 sum) ≤ 6010000000 + i * 1009800000)
 
 abbrev μ-loop : tie.MeasureT-loop
-μ-loop method bonds boiling sum₀ i₀ sum i = 22 - i
+μ-loop method boiling bonds sum₀ column i₀ sum i = 22 - i
 
 -- the first two terms
 line : (c : tie.Start Inv-loop μ-loop) → Line (entry methods (c .args .method) 0) (entry methods (c .args .method) 1) (c .args .boiling)
 line c = method-line (c .args .method) (c .args .boiling) (omega arith)
 
+-- the term of the kind 1 + i
+term-is : (c : tie.After-bond-term Inv-loop μ-loop) → let at = c .before .before .before .before in
+    let s = at .before .before .before .before .args in c .bond-term .result ≡ bondTerm (s .method) (s .t2) (1 + at .loop .i)
+term-is c =
+    let at = c .before .before .before .before in
+    let s = at .before .before .before .before .args in
+    c .bond-term .ensures .0 ∙ rw (entry-read (s .method) (at .loop .i) _ (at .before .column-of .ensures)) (term-at (s .method) (s .t2) (at .loop .i))
+
 -- the sum so far and the next term
-next : (c : tie.After-bond-term Inv-loop μ-loop) → let at = c .before .before in Next (toZ w64 (at .loop .sum)) (at .loop .i) (c .bond-term .result)
-next c = next-facts _ _ _ (c .before .before .loop .inv .2) (omega arith) (c .bond-term .ensures .1)
+next : (c : tie.After-bond-term Inv-loop μ-loop) → let at = c .before .before .before .before in Next (toZ w64 (at .loop .sum)) (at .loop .i) (c .bond-term .result)
+next c = next-facts _ _ _ (c .before .before .before .before .loop .inv .2) (omega arith) (c .bond-term .ensures .1)
 
 sub-sum : tie.Need-sub-sum Inv-loop μ-loop
 sub-sum c = search needs
@@ -63,14 +71,29 @@ mul-sum-4 c = line (c .before .before) .boiling-fits
 add-sum : tie.Need-add-sum Inv-loop μ-loop
 add-sum c = line (c .before .before) .fits
 
-loop-holds : tie.Need-loop-holds Inv-loop μ-loop
-loop-holds c = let l = line (c .before .before) in (omega arith, refl, rw (l .read) (l .small))
+column-of-requires : tie.Need-column-of-requires Inv-loop μ-loop
+column-of-requires c κs = search needs
 
-add-bond-term : tie.Need-add-bond-term Inv-loop μ-loop
-add-bond-term c = omega arith
+loop-holds : tie.Need-loop-holds Inv-loop μ-loop
+loop-holds c = let l = line (c .before .before .before) in (omega arith, refl, rw (l .read) (l .small))
+
+mul-bond-term : tie.Need-mul-bond-term Inv-loop μ-loop
+mul-bond-term c = search needs
+
+element-copy-out-bond-term : tie.Need-element-copy-out-bond-term Inv-loop μ-loop
+element-copy-out-bond-term c = search needs
+
+mul-bond-term-2 : tie.Need-mul-bond-term-2 Inv-loop μ-loop
+mul-bond-term-2 c = search needs
+
+array-copy-out-bond-term : tie.Need-array-copy-out-bond-term Inv-loop μ-loop
+array-copy-out-bond-term c = search needs
 
 bond-term-requires : tie.Need-bond-term-requires Inv-loop μ-loop
-bond-term-requires c κs = search needs
+bond-term-requires c κs =
+    let at = c .before .before .before in
+    let s = at .before .before .before .before in
+    (few-at (s .args .t2) (at .loop .i) (s .pre .1) (omega arith), entry-bound (s .args .method) (at .loop .i) _ (at .before .column-of .ensures))
 
 add-sum-2 : tie.Need-add-sum-2 Inv-loop μ-loop
 add-sum-2 c = next c .fits
@@ -83,17 +106,17 @@ loop-less c = omega arith
 
 loop-again : tie.Need-loop-again Inv-loop μ-loop
 loop-again c =
-    let at = c .before .before in
+    let at = c .before .before .before .before in
     rw (next c .read) (
       omega arith,
-      at .loop .inv .1 ∙ sum-next _ _ (toZ w64 (at .loop .sum)) (at .loop .i) (omega arith) ∙ rw (c .bond-term .ensures .0),
+      at .loop .inv .1 ∙ sum-next _ _ (toZ w64 (at .loop .sum)) (at .loop .i) (omega arith) ∙ rw (term-is c),
       next c .small,
     )
 
 returns : tie.Need-returns Inv-loop μ-loop
 returns c =
     sym (c .before .loop .inv .1 ∙ sum-end _ _ _ (c .before .loop .i) (omega arith))
-    ∙ rw (line (c .before .before .before .before) .read) (sum-by-bonds _ _ _)
+    ∙ rw (line (c .before .before .before .before .before) .read) (sum-by-bonds _ _ _)
 
 pub bond-sum-spec : {M : Type 1} → statement M
 bond-sum-spec =
@@ -112,8 +135,12 @@ bond-sum-spec =
     index-2-sum-2
     mul-sum-4
     add-sum
+    column-of-requires
     loop-holds
-    add-bond-term
+    mul-bond-term
+    element-copy-out-bond-term
+    mul-bond-term-2
+    array-copy-out-bond-term
     bond-term-requires
     add-sum-2
     add-i

@@ -7,14 +7,16 @@ use mir.Facts.{toZ-ofZ}
 use mir.Syntax.{w64}
 use mir.Val.{toZ, ofZ}
 use Rattle.refusal.specs.Outcome.{shownTemperature}
-use Rattle.flash.specs.Points.{unknown, outside, classTerms, sumFrom}
-use Rattle.flash.proofs.Tests.{known, inside}
+use Rattle.refusal.specs.Within.{notWithin}
+use Rattle.refusal.proofs.Tests.{within}
+use Rattle.flash.specs.Points.{outside, classTerms, sumFrom}
+use Rattle.flash.proofs.Tests.{inside}
 use Rattle.flash.proofs.Answers.{class-unknown, class-outside, class-done}
 use Rattle.flash.proofs.flash_by_class.Statement.{statement}
 use Rattle.flash.proofs.flash_by_class.Tie as tie
 
-is-known : (c : tie.Else1) → unknown 10 (c .before .before .args .class) ≡ false
-is-known c = sym (c .before .is-unknown .ensures) ∙ c .if1 .left
+is-known : (c : tie.Else1) → notWithin 10 (c .before .before .args .class) ≡ false
+is-known c = sym (c .before .is-not-within .ensures) ∙ c .if1 .left
 
 outside-is : (c : tie.After-is-outside) → outside (c .before .before .before .args .boiling) ≡ c .is-outside .result
 outside-is c = sym (rw (toZ-ofZ (c .before .before .before .fits .boiling)) at (c .is-outside .ensures))
@@ -25,29 +27,29 @@ sum-is c =
     toZ-ofZ {w = w64} {z = c .class-sum .result} (search needs)
     ∙ rw (toZ-ofZ (c .before .before .before .before .before .fits .boiling)) at (c .class-sum .ensures)
 
-is-unknown-requires : tie.Need-is-unknown-requires
-is-unknown-requires c κs = search needs
+is-not-within-requires : tie.Need-is-not-within-requires
+is-not-within-requires c κs = search needs
 
-refuse-requires : tie.Need-refuse-requires
-refuse-requires c κs = search needs
+refused-temperature-requires : tie.Need-refused-temperature-requires
+refused-temperature-requires c κs = search needs
 
 returns : tie.Need-returns
-returns c = c .refuse .ensures ∙ ap shownTemperature (class-unknown _ _ (sym (c .before .before .is-unknown .ensures) ∙ c .before .if1 .taken))
+returns c = c .refused-temperature .ensures ∙ ap shownTemperature (class-unknown _ _ (sym (c .before .before .is-not-within .ensures) ∙ c .before .if1 .taken))
 
 is-outside-requires : tie.Need-is-outside-requires
 is-outside-requires c κs = search needs
 
-refuse-requires-2 : tie.Need-refuse-requires-2
-refuse-requires-2 c κs = search needs
+refused-temperature-requires-2 : tie.Need-refused-temperature-requires-2
+refused-temperature-requires-2 c κs = search needs
 
 returns-2 : tie.Need-returns-2
 returns-2 c =
-    c .refuse2 .ensures
+    c .refused-temperature2 .ensures
     ∙ ap shownTemperature (class-outside _ _ (is-known (c .before .before .before)) (outside-is (c .before .before) ∙ c .before .if2 .taken))
 
 class-sum-requires : tie.Need-class-sum-requires
 class-sum-requires c κs =
-    let k = known 10 _ (is-known (c .before .before)) in
+    let k = within 10 _ (is-known (c .before .before)) in
     rw (toZ-ofZ (c .before .before .before .before .fits .boiling)) (k .0, k .1, inside _ (outside-is (c .before) ∙ c .if2 .left))
 
 rounded-requires : tie.Need-rounded-requires
@@ -63,11 +65,11 @@ pub flash-by-class-spec : {M : Type 1} → statement M
 flash-by-class-spec =
     tie.close
     (tie.spec
-    is-unknown-requires
-    refuse-requires
+    is-not-within-requires
+    refused-temperature-requires
     returns
     is-outside-requires
-    refuse-requires-2
+    refused-temperature-requires-2
     returns-2
     class-sum-requires
     rounded-requires
