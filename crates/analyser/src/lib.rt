@@ -2,13 +2,13 @@
 ghost use mathlib.Core.Path.{_≡_};
 ghost use Prim.Native.Nat.{_*_, _^_, _≤_};
 ghost use lib.Dec.{T};
-ghost use Rattle.refusal.specs.Outcome.{refused, refusal, shownFigure};
-ghost use Rattle.refusal.specs.Numbers.{badReading};
+ghost use Rattle.refusal.specs.Outcome.{shownFigure};
 ghost use Rattle.rounding.specs.Fraction.{figure, whole, _⊠_};
 ghost use Rattle.analyser.specs.Reading.{isAmount, amount, upTo, goodMethod, converted, measured, overloaded, partsOf};
 ghost use Rattle.analyser.specs.Held.{Scale, Top, Scaled};
 use refusal::Figure;
 use refusal::Refusal;
+use refusal::refused_figure;
 use rounding::round_div;
 
 // An analyser's method: its detection limit and its ceiling, in the reading's unit.
@@ -72,29 +72,16 @@ fn to_parts(method: Method, x: f64, factor: u64, twos: u64) -> u64
     0
 }
 
-// Refusal 14: place 0 for the method, 1 for the reading.
-fn refuse(place: u64) -> Figure
-    ensures { λ r. ⌜ r ≡ shownFigure (refused (refusal badReading place)) ⌝ }
-{
-    Figure {
-        refusal: Refusal {
-            number: refusal::BAD_READING,
-            place,
-        },
-        value: 0,
-    }
-}
-
 // The answer to a reading of x units of factor · 2 ^ twos parts, of which `top` make 1,000,000.
 fn measure(method: Method, x: f64, top: f64, factor: u64, twos: u64) -> Figure
     requires { ⌜ Scale factor twos × Top top (factor * 2 ^ twos) ⌝ }
     ensures { λ r. ⌜ r ≡ shownFigure (measured (amount top) (factor * 2 ^ twos) method x) ⌝ }
 {
     if !is_good(method, top) {
-        return refuse(0);
+        return refused_figure(refusal::BAD_READING, 0);
     }
     if !is_up_to(x, method.ceiling) {
-        return refuse(1);
+        return refused_figure(refusal::BAD_READING, 1);
     }
     Figure {
         refusal: Refusal {
@@ -110,9 +97,9 @@ fn overload(method: Method) -> Figure
     ensures { λ r. ⌜ r ≡ shownFigure (overloaded method) ⌝ }
 {
     if !is_good(method, 1000000.0) {
-        return refuse(0);
+        return refused_figure(refusal::BAD_READING, 0);
     }
-    refuse(1)
+    refused_figure(refusal::BAD_READING, 1)
 }
 
 // The parts per million of a reading. A percent is 10,000 = 625 · 2 ^ 4 parts: 53 bits times 625 fit into 64. Refusal 14.

@@ -1,7 +1,7 @@
 // Molecular formulas: elements, atom counts, reading a formula text and writing counts in Hill order.
 ghost use mathlib.Core.Path.{_≡_};
 ghost use Rattle.refusal.specs.Lowest.{orZero};
-ghost use Rattle.formula.specs.Elements.{number, count, each as Elements·each, firstAbove};
+ghost use Rattle.formula.specs.Elements.{number, each as Elements·each, firstAbove};
 use refusal::Refusal;
 
 mod read;
@@ -52,13 +52,6 @@ pub fn number_of(e: Element) -> u64
         Element::Bromine => 9,
         Element::Silicon => 10,
     }
-}
-
-pub fn count_of(atoms: Atoms, e: Element) -> u64
-    ensures { λ r. ⌜ r ≡ count atoms e ⌝ }
-{
-    let k = number_of(e) as usize;
-    atoms.count[k - 1]
 }
 
 // n atoms of each element.

@@ -14,6 +14,7 @@ use formula::first_above;
 use formula::read_formula;
 use refusal::Figure;
 use refusal::Refusal;
+use refusal::refused_figure;
 use rounding::round_div;
 
 // 25 °C: the temperature at which the limits' formulas were fitted.
@@ -80,15 +81,6 @@ fn answer(value: u64) -> Figure
     }
 }
 
-fn refuse(number: u64, place: u64) -> Figure
-    ensures { λ r. ⌜ r ≡ shownFigure (refused (refusal number place)) ⌝ }
-{
-    Figure {
-        refusal: Refusal { number, place },
-        value: 0,
-    }
-}
-
 // β in quarters of a fuel that is admitted; refusals 2, 3 and 4.
 pub fn admit(purpose: Purpose, atoms: Atoms) -> Figure
     ensures { λ r. ⌜ r ≡ shownFigure (admission purpose atoms) ⌝ }
@@ -96,16 +88,16 @@ pub fn admit(purpose: Purpose, atoms: Atoms) -> Figure
 {
     let over = first_above(each(200), atoms);
     if 0 < over {
-        return refuse(refusal::COUNT_TOO_LARGE, over);
+        return refused_figure(refusal::COUNT_TOO_LARGE, over);
     }
     let fault = at_fault(purpose, atoms);
     if 0 < fault {
-        return refuse(refusal::ELEMENT_NOT_ADMITTED, fault);
+        return refused_figure(refusal::ELEMENT_NOT_ADMITTED, fault);
     }
     let added = terms_added(atoms);
     let taken = terms_taken(atoms);
     if added < taken + 2 {
-        return refuse(refusal::OXYGEN_TOO_LOW, 0);
+        return refused_figure(refusal::OXYGEN_TOO_LOW, 0);
     }
     answer(added - taken)
 }
@@ -118,7 +110,7 @@ pub fn admit_text(purpose: Purpose, text: &[u8]) -> Figure
     let read = read_formula(text);
     let declined = read.refusal;
     if 0 < declined.number {
-        return refuse(declined.number, declined.place);
+        return refused_figure(declined.number, declined.place);
     }
     let atoms = read.atoms;
     admit(purpose, atoms)
@@ -158,7 +150,7 @@ pub fn stoichiometric_fraction_of_text(text: &[u8]) -> Figure
     let read = read_formula(text);
     let declined = read.refusal;
     if 0 < declined.number {
-        return refuse(declined.number, declined.place);
+        return refused_figure(declined.number, declined.place);
     }
     let atoms = read.atoms;
     stoichiometric_fraction(atoms)

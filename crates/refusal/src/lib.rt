@@ -1,6 +1,6 @@
 // Refusals: a number of document 01's table and a place; a figure or a refusal; numbers from 1 to a last one.
 ghost use mathlib.Core.Path.{_≡_};
-ghost use Rattle.refusal.specs.Outcome.{refused, refusal, shownTemperature};
+ghost use Rattle.refusal.specs.Outcome.{refused, refusal, shownFigure, shownTemperature};
 ghost use Rattle.refusal.specs.Within.{notWithin};
 
 // Number 0, place 0: not refused.
@@ -63,7 +63,16 @@ pub const DIFFUSION_OUTSIDE: u64 = 18;
 
 pub const BLEND_OUT_OF_BOUNDS: u64 = 28;
 
-// A refused temperature.
+// A refused figure, and a refused temperature.
+pub fn refused_figure(number: u64, place: u64) -> Figure
+    ensures { λ r. ⌜ r ≡ shownFigure (refused (refusal number place)) ⌝ }
+{
+    Figure {
+        refusal: Refusal { number, place },
+        value: 0,
+    }
+}
+
 pub fn refused_temperature(number: u64, place: u64) -> Temperature
     ensures { λ r. ⌜ r ≡ shownTemperature (refused (refusal number place)) ⌝ }
 {

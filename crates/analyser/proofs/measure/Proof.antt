@@ -19,24 +19,24 @@ up-to-is c = sym (c .before .is-up-to .ensures) ∙ not-false (c .before .is-up-
 is-good-requires : tie.Need-is-good-requires
 is-good-requires c κs = search needs
 
-refuse-requires : tie.Need-refuse-requires
-refuse-requires c κs = search needs
+refused-figure-requires : tie.Need-refused-figure-requires
+refused-figure-requires c κs = search needs
 
 returns : tie.Need-returns
 returns c =
     let g = c .before .before in
-    c .refuse .ensures ∙ ap shownFigure (bad-method _ _ _ _ (sym (g .is-good .ensures) ∙ not-true (g .is-good .result) (c .before .if1 .taken)))
+    c .refused-figure .ensures ∙ ap shownFigure (bad-method _ _ _ _ (sym (g .is-good .ensures) ∙ not-true (g .is-good .result) (c .before .if1 .taken)))
 
 is-up-to-requires : tie.Need-is-up-to-requires
 is-up-to-requires c κs = ceiling-is _ _ (good-is c)
 
-refuse-requires-2 : tie.Need-refuse-requires-2
-refuse-requires-2 c κs = search needs
+refused-figure-requires-2 : tie.Need-refused-figure-requires-2
+refused-figure-requires-2 c κs = search needs
 
 returns-2 : tie.Need-returns-2
 returns-2 c =
     let u = c .before .before in
-    c .refuse2 .ensures
+    c .refused-figure2 .ensures
     ∙ ap shownFigure (bad-reading _ _ _ _ (good-is (u .before)) (sym (u .is-up-to .ensures) ∙ not-true (u .is-up-to .result) (c .before .if2 .taken)))
 
 to-parts-requires : tie.Need-to-parts-requires
@@ -59,10 +59,10 @@ measure-spec =
     tie.close
     (tie.spec
     is-good-requires
-    refuse-requires
+    refused-figure-requires
     returns
     is-up-to-requires
-    refuse-requires-2
+    refused-figure-requires-2
     returns-2
     to-parts-requires
     returns-3)

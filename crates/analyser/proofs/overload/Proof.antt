@@ -17,22 +17,22 @@ is-good-requires : tie.Need-is-good-requires
 unfolding ofBits
 is-good-requires c κs = tt
 
-refuse-requires : tie.Need-refuse-requires
-refuse-requires c κs = search needs
+refused-figure-requires : tie.Need-refused-figure-requires
+refused-figure-requires c κs = search needs
 
 returns : tie.Need-returns
 returns c =
     let g = c .before .before in
-    c .refuse .ensures ∙ ap shownFigure (overload-bad _ (good-is g ∙ not-true (g .is-good .result) (c .before .if1 .taken)))
+    c .refused-figure .ensures ∙ ap shownFigure (overload-bad _ (good-is g ∙ not-true (g .is-good .result) (c .before .if1 .taken)))
 
-refuse-requires-2 : tie.Need-refuse-requires-2
-refuse-requires-2 c κs = search needs
+refused-figure-requires-2 : tie.Need-refused-figure-requires-2
+refused-figure-requires-2 c κs = search needs
 
 returns-2 : tie.Need-returns-2
 returns-2 c =
     let g = c .before .before in
-    c .refuse2 .ensures ∙ ap shownFigure (overload-good _ (good-is g ∙ not-false (g .is-good .result) (c .before .if1 .left)))
+    c .refused-figure2 .ensures ∙ ap shownFigure (overload-good _ (good-is g ∙ not-false (g .is-good .result) (c .before .if1 .left)))
 
 pub overload-spec : {M : Type 1} → statement M
 overload-spec =
-    tie.close (tie.spec is-good-requires refuse-requires returns refuse-requires-2 returns-2)
+    tie.close (tie.spec is-good-requires refused-figure-requires returns refused-figure-requires-2 returns-2)

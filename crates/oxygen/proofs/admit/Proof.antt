@@ -22,20 +22,20 @@ each-requires c κs = search needs
 first-above-requires : tie.Need-first-above-requires
 first-above-requires c κs = search needs
 
-refuse-requires : tie.Need-refuse-requires
-refuse-requires c κs = search needs
+refused-figure-requires : tie.Need-refused-figure-requires
+refused-figure-requires c κs = search needs
 
 returns : tie.Need-returns
-returns c = admission-large _ _ _ _ (over (c .before .before)) (omega arith) (c .refuse .ensures)
+returns c = admission-large _ _ _ _ (over (c .before .before)) (omega arith) (c .refused-figure .ensures)
 
 at-fault-requires : tie.Need-at-fault-requires
 at-fault-requires c κs = search needs
 
-refuse-requires-2 : tie.Need-refuse-requires-2
-refuse-requires-2 c κs = search needs
+refused-figure-requires-2 : tie.Need-refused-figure-requires-2
+refused-figure-requires-2 c κs = search needs
 
 returns-2 : tie.Need-returns-2
-returns-2 c = let f = c .before .before in admission-fault _ _ _ (few (f .before)) _ (f .at-fault .ensures) (omega arith) (c .refuse2 .ensures)
+returns-2 c = let f = c .before .before in admission-fault _ _ _ (few (f .before)) _ (f .at-fault .ensures) (omega arith) (c .refused-figure2 .ensures)
 
 terms-added-requires : tie.Need-terms-added-requires
 terms-added-requires c κs = few (c .before .before)
@@ -46,13 +46,13 @@ terms-taken-requires c κs = few (c .before .before .before)
 add-if3 : tie.Need-add-if3
 add-if3 c = search needs
 
-refuse-requires-3 : tie.Need-refuse-requires-3
-refuse-requires-3 c κs = search needs
+refused-figure-requires-3 : tie.Need-refused-figure-requires-3
+refused-figure-requires-3 c κs = search needs
 
 returns-3 : tie.Need-returns-3
 returns-3 c =
     let f = c .before .before .before .before .before in
-    admission-low _ _ _ (few (f .before)) _ (f .at-fault .ensures) (omega arith) (omega arith) (c .refuse3 .ensures)
+    admission-low _ _ _ (few (f .before)) _ (f .at-fault .ensures) (omega arith) (omega arith) (c .refused-figure3 .ensures)
 
 sub-answer : tie.Need-sub-answer
 sub-answer c = search needs
@@ -71,15 +71,15 @@ admit-spec =
     (tie.spec
     each-requires
     first-above-requires
-    refuse-requires
+    refused-figure-requires
     returns
     at-fault-requires
-    refuse-requires-2
+    refused-figure-requires-2
     returns-2
     terms-added-requires
     terms-taken-requires
     add-if3
-    refuse-requires-3
+    refused-figure-requires-3
     returns-3
     sub-answer
     answer-requires

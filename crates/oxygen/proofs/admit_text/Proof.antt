@@ -12,13 +12,13 @@ use Rattle.oxygen.proofs.admit_text.Tie as tie
 read-formula-requires : tie.Need-read-formula-requires
 read-formula-requires c κs = search needs
 
-refuse-requires : tie.Need-refuse-requires
-refuse-requires c κs = search needs
+refused-figure-requires : tie.Need-refused-figure-requires
+refused-figure-requires c κs = search needs
 
 returns : tie.Need-returns
 returns c =
     let r = c .before .before .before .before in
-    (c .refuse .ensures ∙ text-refused shownFigure (admission _) _ _ (r .read-formula .ensures .0) (omega arith), omega (arith, ap (λ (f : Figure). f .value) (c .refuse .ensures)))
+    (c .refused-figure .ensures ∙ text-refused shownFigure (admission _) _ _ (r .read-formula .ensures .0) (omega arith), omega (arith, ap (λ (f : Figure). f .value) (c .refused-figure .ensures)))
 
 admit-requires : tie.Need-admit-requires
 admit-requires c κs = search needs
@@ -31,4 +31,4 @@ returns-2 c =
 pub admit-text-spec : {M : Type 1} → statement M
 admit-text-spec =
     tie.close
-    (tie.spec read-formula-requires refuse-requires returns admit-requires returns-2)
+    (tie.spec read-formula-requires refused-figure-requires returns admit-requires returns-2)

@@ -11,13 +11,13 @@ use Rattle.oxygen.proofs.stoichiometric_fraction_of_text.Tie as tie
 read-formula-requires : tie.Need-read-formula-requires
 read-formula-requires c κs = search needs
 
-refuse-requires : tie.Need-refuse-requires
-refuse-requires c κs = search needs
+refused-figure-requires : tie.Need-refused-figure-requires
+refused-figure-requires c κs = search needs
 
 returns : tie.Need-returns
 returns c =
     let r = c .before .before .before .before in
-    c .refuse .ensures ∙ text-refused shownFigure stoichiometricFraction _ _ (r .read-formula .ensures .0) (omega arith)
+    c .refused-figure .ensures ∙ text-refused shownFigure stoichiometricFraction _ _ (r .read-formula .ensures .0) (omega arith)
 
 stoichiometric-fraction-requires : tie.Need-stoichiometric-fraction-requires
 stoichiometric-fraction-requires c κs = search needs
@@ -30,4 +30,4 @@ returns-2 c =
 pub stoichiometric-fraction-of-text-spec : {M : Type 1} → statement M
 stoichiometric-fraction-of-text-spec =
     tie.close
-    (tie.spec read-formula-requires refuse-requires returns stoichiometric-fraction-requires returns-2)
+    (tie.spec read-formula-requires refused-figure-requires returns stoichiometric-fraction-requires returns-2)
