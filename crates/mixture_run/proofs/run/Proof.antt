@@ -4,10 +4,12 @@ use mathlib.Core.Path.{sym}
 use mathlib.Core.List.{List, replicate}
 use Prim.Native.Nat.{ℕ, _≤_}
 use native.Mathlib.Omega.{arith}
-use lib.ListN.{length}
+use lib.ListN.{length, take}
 use lib.Seq.{length-take-le}
 use Rattle.text.specs.Writing.{placed}
 use Rattle.text.proofs.Writings.{placed-within, holding-length}
+use Rattle.blend.specs.Blend.{shownLimits}
+use Rattle.sheet.specs.Mixture.{sheetAnswer}
 use Rattle.sheet.specs.Answer.{answerText}
 use Rattle.mixture_run.proofs.run.Statement.{statement}
 use Rattle.mixture_run.proofs.run.Tie as tie
@@ -16,10 +18,10 @@ abbrev room : List ℕ
 room = replicate 96 0
 
 -- the answer's text is no longer than the room
-within : (c : tie.After-write-answer) → c .write-answer .result .length ≤ length (c .write-answer .last .1 .0)
+within : (c : tie.After-respond) → c .respond .result .length ≤ length (c .respond .last .1 .0)
 within c =
-    let t = answerText (c .before .before .sheet-answer .result) in
-    rw (c .write-answer .ensures .0, c .write-answer .ensures .1) (omega (arith, placed-within room t, holding-length room t (placed 96 t)))
+    let t = answerText (shownLimits (sheetAnswer (take (c .before .before .before .before .read-full .result) (c .before .before .before .before .read-full .last .1 .0)))) in
+    rw (c .respond .ensures .0, c .respond .ensures .1) (omega (arith, placed-within room t, holding-length room t (placed 96 t)))
 
 slice-aggregate-read-full : tie.Need-slice-aggregate-read-full
 slice-aggregate-read-full c = search needs
@@ -30,17 +32,14 @@ read-full-requires c κs = search needs
 array-share-prefix-input : tie.Need-array-share-prefix-input
 array-share-prefix-input c = search needs
 
-slice-aggregate-sheet-answer : tie.Need-slice-aggregate-sheet-answer
-slice-aggregate-sheet-answer c = search needs
+slice-aggregate-respond : tie.Need-slice-aggregate-respond
+slice-aggregate-respond c = search needs
 
-sheet-answer-requires : tie.Need-sheet-answer-requires
-sheet-answer-requires c κs = search needs
+slice-aggregate-respond-2 : tie.Need-slice-aggregate-respond-2
+slice-aggregate-respond-2 c = search needs
 
-slice-aggregate-write-answer : tie.Need-slice-aggregate-write-answer
-slice-aggregate-write-answer c = search needs
-
-write-answer-requires : tie.Need-write-answer-requires
-write-answer-requires c κs = search needs
+respond-requires : tie.Need-respond-requires
+respond-requires c κs = search needs
 
 array-share-prefix-out : tie.Need-array-share-prefix-out
 array-share-prefix-out c = within (c .before)
@@ -61,10 +60,9 @@ run-spec =
     slice-aggregate-read-full
     read-full-requires
     array-share-prefix-input
-    slice-aggregate-sheet-answer
-    sheet-answer-requires
-    slice-aggregate-write-answer
-    write-answer-requires
+    slice-aggregate-respond
+    slice-aggregate-respond-2
+    respond-requires
     array-share-prefix-out
     slice-aggregate-write-all
     write-all-requires
