@@ -54,11 +54,11 @@ jlw_figure jlw_oxygen_coefficient(const uint8_t *text, size_t text_len);
 /* The stoichiometric fraction in 0.01 %: CH4 936; refusals as for beta. */
 jlw_figure jlw_stoichiometric_fraction(const uint8_t *text, size_t text_len);
 
-/* Both flammability limits of a fuel in 0.01 volume percent: CH4 454 and 2732. No temperature is named, 25.00 is meant.
+/* Both flammability limits of a fuel in 0.01 volume percent, each at most 10000. No temperature is named, 25.00 is meant.
    Admitted: carbon present, only C, H, O, N and at most one Cl. */
 jlw_limits jlw_fuel_limits(const uint8_t *text, size_t text_len);
 
-/* The same at a temperature. Refusal 10 outside 0.00 to 200.00, after the fuel's. */
+/* The same at a temperature: CH4 at 25.00, where the formulas were fitted, 454 and 2732. Refusal 10 outside 0.00 to 200.00, after the fuel's. */
 jlw_limits jlw_fuel_limits_at(const uint8_t *text, size_t text_len, int64_t temperature);
 
 /* The mass concentrations of a fuel at both limits in 0.01 g/m3; refusals as for limits at a temperature. */

@@ -22,6 +22,9 @@ static int checks, failures;
 
 enum { ROOM = 1 << 17 };
 
+/* 25 °C, at which the limits' formulas were fitted. */
+enum { FIT_TEMPERATURE = 2500 };
+
 /* Memory whose last byte stands before a page that may not be touched: a read past a lent slice ends the test. */
 static uint8_t *fence_end(void)
 {
@@ -204,13 +207,13 @@ static void test_oxygen(void)
 static void test_limits(void)
 {
     CHECK(limits_are(jlw_fuel_limits(TEXT("CH4")), 454, 2732));
-    CHECK(limits_are(jlw_fuel_limits(TEXT("C6H6")), 143, 821));
-    CHECK(limits_are(jlw_fuel_limits(TEXT("C7H8")), 121, 743));
+    CHECK(limits_are(jlw_fuel_limits_at(TEXT("CH4"), FIT_TEMPERATURE), 454, 2732));
+    CHECK(limits_are(jlw_fuel_limits_at(TEXT("C6H6"), FIT_TEMPERATURE), 143, 821));
+    CHECK(limits_are(jlw_fuel_limits_at(TEXT("C7H8"), FIT_TEMPERATURE), 121, 743));
     CHECK(limits_refused(jlw_fuel_limits(TEXT("CO2")), 4, 0));
     CHECK(limits_refused(jlw_fuel_limits(TEXT("CHCl3")), 3, 8));
     CHECK(limits_refused(jlw_fuel_limits(TEXT("CS2Cl2")), 3, 5));
     CHECK(limits_refused(jlw_fuel_limits(NO_TEXT), 1, 0));
-    CHECK(limits_are(jlw_fuel_limits_at(TEXT("CH4"), 2500), 454, 2732));
     CHECK(limits_are(jlw_fuel_limits_at(TEXT("CH4"), 13400), 414, 3099));
     CHECK(answered(jlw_fuel_limits_at(TEXT("CH4"), 0).refusal) && answered(jlw_fuel_limits_at(TEXT("CH4"), 20000).refusal));
     CHECK(limits_refused(jlw_fuel_limits_at(TEXT("CH4"), -1), 10, 0));
@@ -246,7 +249,7 @@ static void test_blends(void)
     CHECK(answered(both.refusal) && both.blend.total == 1000000);
     CHECK(same_blend(both.blend, add(propane.blend, "C2H6", 700000).blend));
     CHECK(limits_are(jlw_blend_limits(both.blend.total, both.blend.lower, both.blend.upper), 257, 1496));
-    CHECK(limits_are(jlw_blend_limits_at(both.blend.total, both.blend.lower, both.blend.upper, 2500), 257, 1496));
+    CHECK(limits_are(jlw_blend_limits_at(both.blend.total, both.blend.lower, both.blend.upper, FIT_TEMPERATURE), 257, 1496));
     CHECK(limits_refused(jlw_blend_limits_at(both.blend.total, both.blend.lower, both.blend.upper, 20001), 10, 0));
 
     CHECK(blend_refused(add(both.blend, "CH4", 1), 8, 0, both.blend));

@@ -15,7 +15,7 @@ use Rattle.rounding.specs.Fraction.{whole, _⊠_, figure}
 use Rattle.rounding.proofs.Rounding.{round-none}
 use Rattle.rounding.proofs.Fractions.{Is, is-over, is-whole, is-times, is-same, at-most-values, figure-is}
 use Rattle.analyser.specs.Reading.{isAmount, amount}
-use Rattle.analyser.specs.Held.{Scaled}
+use Rattle.analyser.specs.Internal.{Scaled}
 
 -- what the fields f of the exponent and t of the significand say of x: it is q · 2 ^ j units of 2 ^ −1074
 record Read (f t : ℕ) (x : Float) : Type 0 where

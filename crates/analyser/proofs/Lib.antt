@@ -1,4 +1,3 @@
 pub mod Order
 pub mod Bits
-pub mod Answers
 pub mod Admitted

@@ -1,15 +1,15 @@
 -- The floats' own order, of amounts, is that of their exact values.
 use mathlib.Core.Path.{_≡_, refl, sym, ap, _∙_, subst}
 use mathlib.Core.Bool.{Bool, true, false, not, _&&_, _||_}
-use Prim.Native.Nat.{ℕ, zero, suc, _+_, _*_, _<_}
+use Prim.Native.Nat.{ℕ, zero, suc, _*_, _<_}
 use native.Mathlib.Nat.{zero-mul, zero-add, mul-one, mul-pos, zero-lt-suc}
 use native.Mathlib.Omega.{arith}
 use lib.IntN.{ℤ, pos}
-use lib.Dec.{T, leb, ltb, eqb, eqb→eq, leb·zero, leb·suc-zero, eqb·suc-zero}
+use lib.Dec.{T, leb, ltb, eqb, eqb→eq, leb·zero, leb·suc-zero, leb·suc-suc, eqb·suc-zero, eqb·suc-suc}
 use lib.Ieee.{Float, nan, inf, fin, binary64, up, down, lt, eq, le, ofBits, level}
 use lib.Ieee as Ieee
 use lib.Ieee.Fits.{eq→eqb, up-pos}
-use borrow.Author.Tests.{lt-ltb, le-ltb, le-leb, lt-leb, eq-eqb, ne-eqb}
+use borrow.Author.Tests.{lt-ltb, le-ltb, ne-eqb}
 use Rattle.rounding.specs.Fraction.{_over_, atMost}
 use Rattle.analyser.specs.Reading.{isAmount, amount, upTo}
 
@@ -17,37 +17,20 @@ use Rattle.analyser.specs.Reading.{isAmount, amount, upTo}
 abbrev Signed : Bool → ℕ → Type 0
 Signed s a = T (not s || eqb a 0)
 
-data Three (a b : ℕ) : Type 0 where
-  less : a < b → Three a b
-  same : a ≡ b → Three a b
-  more : b < a → Three a b
-
-three : (a b : ℕ) → Three a b
-three zero zero = same refl
-three zero (suc b) = less (omega arith)
-three (suc a) zero = more (omega arith)
-three (suc a) (suc b) = elim (three a b) [ less h ↦ less (omega arith) | same h ↦ same (omega arith) | more h ↦ more (omega arith) ]
-
 le-plain : (a b : ℕ) → (ltb a b || (eqb a b && true)) ≡ leb a b
-le-plain a b = go (three a b)
-  where
-    go : Three a b → (ltb a b || (eqb a b && true)) ≡ leb a b
-    go (less h) = simp (lt-ltb a b h, le-leb a b (omega arith))
-    go (same h) = simp (le-ltb a b (omega arith), eq-eqb a b h, le-leb a b (omega arith))
-    go (more h) = simp (le-ltb a b (omega arith), ne-eqb a b (λ (e : a ≡ b). omega arith), lt-leb a b h)
+le-plain zero zero = refl
+le-plain zero (suc b) = simp (lt-ltb 0 (suc b) (omega arith), leb·zero)
+le-plain (suc a) zero = simp (le-ltb (suc a) 0 (omega arith), leb·suc-zero, eqb·suc-zero)
+le-plain (suc a) (suc b) = let next : ltb (suc a) (suc b) ≡ ltb a b = leb·suc-suc (suc a) b in simp (next, leb·suc-suc, eqb·suc-suc) (le-plain a b)
 
 le-minus : (a : ℕ) → (eqb a 0 && (false || eqb a 0)) ≡ leb a 0
 le-minus zero = refl
 le-minus (suc a) = simp (eqb·suc-zero, leb·suc-zero)
 
-minus-le : (b : ℕ) → (ltb 0 (0 + b) || (eqb 0 b && true)) ≡ leb 0 b
-minus-le zero = refl
-minus-le (suc b) = simp (zero-add, lt-ltb 0 (suc b) (zero-lt-suc b), leb·zero)
-
 le-signed : (s : Bool) (a : ℕ) (t : Bool) (b : ℕ) → Signed s a → Signed t b → (Ieee.below s a t b || level s a t b) ≡ leb a b
 le-signed false a false b p q = le-plain a b
 le-signed false a true b p q = rw (eqb→eq b 0 q) (le-minus a)
-le-signed true a false b p q = rw (eqb→eq a 0 p) (minus-le b)
+le-signed true a false b p q = rw (eqb→eq a 0 p, zero-add b) (le-plain 0 b)
 le-signed true a true b p q = rw (eqb→eq a 0 p, eqb→eq b 0 q) refl
 
 -- TWO AMOUNTS

@@ -5,8 +5,8 @@ use mathlib.Core.Bool.{Bool, false, not, _&&_, _||_, cond}
 use lib.Dec.{eqb}
 use lib.Ieee.{Float, nan, inf, fin}
 use lib.Ieee.Positive.{num, den}
-use Rattle.refusal.specs.Numbers.{badReading}
-use Rattle.refusal.specs.Outcome.{Outcome, refused, answered, refusal, refuse}
+use Rattle.answer.specs.Numbers.{badReading}
+use Rattle.answer.specs.Outcome.{Outcome, refused, answered, refusal, refuse}
 use Rattle.rounding.specs.Fraction.{Fraction, _over_, whole, _⊠_, atMost, figure}
 use Rattle.analyser.specs.declared.Method.{Method}
 use Rattle.analyser.specs.declared.Reading.{Reading}

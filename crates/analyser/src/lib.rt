@@ -2,13 +2,13 @@
 ghost use mathlib.Core.Path.{_≡_};
 ghost use Prim.Native.Nat.{_*_, _^_, _≤_};
 ghost use lib.Dec.{T};
-ghost use Rattle.refusal.specs.Outcome.{shownFigure};
+ghost use Rattle.answer.specs.Outcome.{shownFigure};
 ghost use Rattle.rounding.specs.Fraction.{figure, whole, _⊠_};
-ghost use Rattle.analyser.specs.Reading.{isAmount, amount, upTo, goodMethod, converted, measured, overloaded, partsOf};
-ghost use Rattle.analyser.specs.Held.{Scale, Top, Scaled};
-use refusal::Figure;
-use refusal::Refusal;
-use refusal::refused_figure;
+ghost use Rattle.analyser.specs.Reading.{isAmount, amount, upTo, goodMethod, measured, overloaded, partsOf};
+ghost use Rattle.analyser.specs.Internal.{Scale, Top, Scaled};
+use answer::Figure;
+use answer::answered_figure;
+use answer::refused_figure;
 use rounding::round_div;
 
 // An analyser's method: its detection limit and its ceiling, in the reading's unit.
@@ -61,45 +61,31 @@ fn whole_parts(x: f64, factor: u64, twos: u64) -> u64
     round_div(significand * factor, 1u64 << shift)
 }
 
-// The parts of an admitted reading: none below the limit.
-fn to_parts(method: Method, x: f64, factor: u64, twos: u64) -> u64
-    requires { ⌜ T (isAmount (method .limit)) × Scaled x factor twos ⌝ }
-    ensures { λ r. ⌜ r ≡ converted (factor * 2 ^ twos) method x ⌝ }
-{
-    if method.limit <= x {
-        return whole_parts(x, factor, twos);
-    }
-    0
-}
-
-// The answer to a reading of x units of factor · 2 ^ twos parts, of which `top` make 1,000,000.
+// The answer to a reading of x units of factor · 2 ^ twos parts, of which `top` make 1,000,000: no parts below the limit.
 fn measure(method: Method, x: f64, top: f64, factor: u64, twos: u64) -> Figure
     requires { ⌜ Scale factor twos × Top top (factor * 2 ^ twos) ⌝ }
-    ensures { λ r. ⌜ r ≡ shownFigure (measured (amount top) (factor * 2 ^ twos) method x) ⌝ }
+    ensures { λ r. ⌜ (r ≡ shownFigure (measured (amount top) (factor * 2 ^ twos) method x)) × (r .value ≤ 1000000) ⌝ }
 {
     if !is_good(method, top) {
-        return refused_figure(refusal::BAD_READING, 0);
+        return refused_figure(answer::BAD_READING, 0);
     }
     if !is_up_to(x, method.ceiling) {
-        return refused_figure(refusal::BAD_READING, 1);
+        return refused_figure(answer::BAD_READING, 1);
     }
-    Figure {
-        refusal: Refusal {
-            number: 0,
-            place: 0,
-        },
-        value: to_parts(method, x, factor, twos),
+    if method.limit <= x {
+        return answered_figure(whole_parts(x, factor, twos));
     }
+    answered_figure(0)
 }
 
 // The answer to an overload, whose method is in parts per million.
 fn overload(method: Method) -> Figure
-    ensures { λ r. ⌜ r ≡ shownFigure (overloaded method) ⌝ }
+    ensures { λ r. ⌜ (r ≡ shownFigure (overloaded method)) × (r .value ≤ 1000000) ⌝ }
 {
     if !is_good(method, 1000000.0) {
-        return refused_figure(refusal::BAD_READING, 0);
+        return refused_figure(answer::BAD_READING, 0);
     }
-    refused_figure(refusal::BAD_READING, 1)
+    refused_figure(answer::BAD_READING, 1)
 }
 
 // The parts per million of a reading. A percent is 10,000 = 625 · 2 ^ 4 parts: 53 bits times 625 fit into 64. Refusal 14.

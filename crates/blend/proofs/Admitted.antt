@@ -1,34 +1,47 @@
--- β of a fuel that is admitted, known by its entry's atoms.
-use mathlib.Core.Path.{_≡_, sym, _∙_}
+-- What is known of a fuel that is admitted to the gas limits.
+use mathlib.Core.Path.{_≡_, refl, ap}
 use Prim.Native.Nat.{ℕ, _≤_}
 use native.Mathlib.Omega.{arith}
-use lib.IntN.{natAbs}
-use Rattle.refusal.specs.Outcome.{Outcome, refused, answered, valueOf, andThen}
-use Rattle.formula.specs.declared.Atoms.{Atoms}
-use Rattle.formula.specs.Elements.{each}
+use Rattle.answer.specs.Outcome.{Outcome, refused, answered, valueOf, andThen, Numbered}
+use Rattle.answer.proofs.Outcomes.{apart, andThen-numbered}
+use Rattle.elements.specs.declared.Atoms.{Atoms}
+use Rattle.elements.specs.Elements.{each}
+use Rattle.elements.specs.Internal.{AtMost200}
+use Rattle.formula.specs.Reading.{reading}
+use Rattle.formula.proofs.Texts.{reading-numbered}
 use Rattle.oxygen.specs.declared.Purpose.the-variants.{GasLimits}
-use Rattle.oxygen.specs.Beta.{beta}
 use Rattle.oxygen.specs.Admission.{admission}
-use Rattle.oxygen.proofs.Betas.{beta-high}
-use Rattle.oxygen.proofs.Admissions.{admitted-facts, limits-most}
-use Rattle.blend.specs.Fuel.{Fuel, fuelAtoms, fuelBeta}
+use Rattle.oxygen.proofs.Admissions.{admission-numbered, admitted-facts, limits-most}
+use Rattle.blend.specs.Fuel.{Fuel, counts, text, fuelAtoms, admitting, quarters}
 
--- q is β in quarters, which lies from 1/2 to 250
-pub record Quarters (a : Atoms) (q : ℕ) : Type 0 where
-  pub is : q ≡ natAbs (beta a)
-  pub least : 2 ≤ q
-  pub most : q ≤ 1000
+-- β lies from 1/2 to 250
+pub record AdmittedFuel (a : Atoms) : Type 0 where
+  pub few : AtMost200 a
+  pub least : 2 ≤ quarters a
+  pub most : quarters a ≤ 1000
 
-pub admitted-beta : (a : Atoms) (q : ℕ) → admission GasLimits a ≡ answered q → Quarters a q
-admitted-beta a q e =
+pub admission-facts : (a : Atoms) (q : ℕ) → admission GasLimits a ≡ answered q → (q ≡ quarters a) × AdmittedFuel a
+admission-facts a q e =
     let h = admitted-facts GasLimits a q e in
-    record { is = h .is ∙ sym (beta-high a (omega (arith, h .is, h .least)) .1); least = h .least; most = limits-most a q e }
+    (h .is, record { few = h .few; least = omega (arith, h .is, h .least); most = omega (arith, h .is, limits-most a q e) })
 
--- of a fuel that is given by counts or by text
-pub fuel-beta : (f : Fuel) (q : ℕ) → fuelBeta f ≡ answered q → Quarters (valueOf (each 0) (fuelAtoms f)) q
-unfolding fuelBeta
-fuel-beta f q = go (fuelAtoms f)
+pub admitted-fuel : (f : Fuel) (a : Atoms) → admitting f ≡ answered a → AdmittedFuel a
+unfolding admitting
+admitted-fuel f a = by-atoms (fuelAtoms f)
   where
-    go : (o : Outcome Atoms) → andThen o (admission GasLimits) ≡ answered q → Quarters (valueOf (each 0) o) q
-    go (refused r) e = let z : _≡_ {A = ℕ} 0 1 = cc in absurd (omega arith)
-    go (answered a) e = admitted-beta a q e
+    by-beta : (x : Atoms) (o : Outcome ℕ) → admission GasLimits x ≡ o → andThen o (λ q. answered x) ≡ answered a → AdmittedFuel a
+    by-beta x (refused r) e h = apart r a h
+    by-beta x (answered q) e h = let same : x ≡ a = ap (valueOf (each 0)) h in rw same at (admission-facts x q e .1)
+
+    by-atoms : (o : Outcome Atoms) → andThen o (λ x. andThen (admission GasLimits x) (λ q. answered x)) ≡ answered a → AdmittedFuel a
+    by-atoms (refused r) h = apart r a h
+    by-atoms (answered x) h = by-beta x (admission GasLimits x) refl h
+
+-- a refusal has a number
+pub admitting-numbered : (f : Fuel) → Numbered (admitting f)
+unfolding admitting
+admitting-numbered f = andThen-numbered (fuelAtoms f) _ (atoms-numbered f) (λ a. andThen-numbered (admission GasLimits a) _ (admission-numbered GasLimits a) (λ q. tt))
+  where
+    atoms-numbered : (f : Fuel) → Numbered (fuelAtoms f)
+    atoms-numbered (counts a) = tt
+    atoms-numbered (text t) = reading-numbered t

@@ -6,10 +6,10 @@ use Prim.Native.Nat.{ℕ, _+_, _*_, _≤_, _<_}
 use native.Mathlib.Nat.{le-trans, le-of-eq, mul-le-mul-left, mul-le-mul-right, add-le-add, eq-zero-or-pos}
 use native.Mathlib.Decide.{decLt}
 use native.Mathlib.Omega.{arith}
-use Rattle.rounding.specs.Fraction.{Fraction, whole, _⊠_, _⊑_}
-use Rattle.rounding.proofs.Fractions.{is-whole, is-times, at-most-is, figure-mono}
-use Rattle.formula.specs.declared.Atoms.{Atoms}
-use Rattle.oxygen.specs.Limit.{Side}
+use Rattle.rounding.specs.Fraction.{Fraction, whole, _⊠_, _⊑_, figure}
+use Rattle.rounding.proofs.Fractions.{is-whole, is-times, at-most-is, at-most-times, times-at-most, figure-mono}
+use Rattle.elements.specs.declared.Atoms.{Atoms}
+use Rattle.blend.specs.Limit.{Side}
 use Rattle.blend.specs.Temperature.{correction}
 use Rattle.blend.specs.Blend.{unit}
 use Rattle.blend.specs.Model.{Entry, Entries, sum, total, leChatelier, limitAt, limitFigure}
@@ -89,55 +89,34 @@ at-most = record { eq = le-of-eq; trans = le-trans; plus = add-le-add; times = m
 at-least : Order (λ a b. b ≤ a)
 at-least = record { eq = λ q. le-of-eq (sym q); trans = λ x y. le-trans y x; plus = add-le-add; times = mul-le-mul-left; either = λ a b. either-way b a }
 
--- LIMITS. A product's order is that of one factor.
-module _ (f g h : Fraction) (l : f ⊑ g) where
-  times-most : f ⊠ h ⊑ g ⊠ h
-  unfolding _⊑_ _⊠_
-  times-most = let a = mul-le-mul-right (h .num * h .den) l in omega arith
-
-  most-times : h ⊠ f ⊑ h ⊠ g
-  unfolding _⊑_ _⊠_
-  most-times = let a = mul-le-mul-right (h .num * h .den) l in omega arith
-
+-- LIMITS go by the total over the weight, unrounded and as answered.
 module _ (s : Side) (t : ℕ) where
-  over-positive : (es : Entries) → 0 < total es → 0 < limitAt s es t .den
-  unfolding limitAt
-  over-positive es h = is-times (le-chatelier-is s es h) (correction-is s t) .den-pos
-
-  -- the limit goes by the total over the weight, unrounded and as answered
   module _ (es fs : Entries) (h : 0 < total es) (g : 0 < total fs) (l : total es * sum (weighs s) fs ≤ total fs * sum (weighs s) es) where
     limit-mono : limitAt s es t ⊑ limitAt s fs t
     unfolding limitAt
     limit-mono =
         let u = mul-le-mul-right (100 * unit s) l in
-        times-most (leChatelier s es) (leChatelier s fs) (correction s t) (at-most-is (le-chatelier-is s es h) (le-chatelier-is s fs g) (omega arith))
+        at-most-times (correction s t) (correction-is s t .den-pos) (at-most-is (le-chatelier-is s es h) (le-chatelier-is s fs g) (omega arith))
 
-    answer-mono : limitFigure s es t ≤ limitFigure s fs t
-    unfolding limitFigure limitAt
-    answer-mono =
-        figure-mono _ _ (most-times (limitAt s es t) (limitAt s fs t) (whole 100) limit-mono)
-        (is-times (is-whole 100) (is-times (le-chatelier-is s es h) (correction-is s t)) .den-pos)
-        (is-times (is-whole 100) (is-times (le-chatelier-is s fs g) (correction-is s t)) .den-pos)
+    answer-mono : figure (whole 100 ⊠ limitAt s es t) ≤ figure (whole 100 ⊠ limitAt s fs t)
+    answer-mono = figure-mono (times-at-most (whole 100) (is-whole 100 .den-pos) limit-mono)
 
-  pub bracketed : (es : Entries) → 0 < total es → Between s es t (limitFigure s es t)
-  unfolding sum
+  pub bracketed : (es : Entries) → 0 < total es → Between (λ fs. limitAt s fs t) es (limitFigure s es t)
+  unfolding sum limitFigure
   bracketed es h =
       let a = extreme (weightOf s) (λ a b. a ≤ b) at-most es h in
       let b = extreme (weightOf s) (λ a b. b ≤ a) at-least es h in
       let ha = a .3 in
       let hb = b .3 in
       record {
-        over = over-positive es h;
         low = a .0;
         low-taken = a .1;
         low-present = a .2;
-        low-over = over-positive (alone (a .0)) (omega arith);
         above-exact = limit-mono (alone (a .0)) es (omega arith) h (omega arith);
         above = answer-mono (alone (a .0)) es (omega arith) h (omega arith);
         high = b .0;
         high-taken = b .1;
         high-present = b .2;
-        high-over = over-positive (alone (b .0)) (omega arith);
         below-exact = limit-mono es (alone (b .0)) h (omega arith) (omega arith);
         below = answer-mono es (alone (b .0)) h (omega arith) (omega arith);
       }

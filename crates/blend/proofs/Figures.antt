@@ -1,32 +1,18 @@
--- A blend's limits as the code has them, one quotient each; the weights as it has them; and that its products fit.
-use mathlib.Core.Path.{_≡_, sym, _∙_}
+-- A blend's limits as the code has them, one quotient each, at most 100.00 %; and that its products fit.
+use mathlib.Core.Path.{_≡_, sym}
 use Prim.Native.Nat.{ℕ, _+_, _*_, _-_, _≤_, _<_}
-use native.Mathlib.Nat.{mul-le-mul}
+use native.Mathlib.Nat.{mul-le-mul, mul-le-mul-left}
 use native.Mathlib.Omega.{arith}
-use borrow.Author.Tests.{le-leb, lt-leb}
 use Rattle.rounding.specs.Round.{roundDiv}
 use Rattle.rounding.specs.Fraction.{_over_, whole, _⊠_, _⊘_, figure}
+use Rattle.rounding.proofs.Rounding.{round-mono}
 use Rattle.rounding.proofs.Fractions.{is-over, is-whole, is-times, is-same, figure-is}
-use Rattle.oxygen.specs.Limit.{Side, lower, upper}
+use Rattle.blend.specs.Limit.{Side, lower, upper}
 use Rattle.blend.specs.declared.Blend.{Blend}
 use Rattle.blend.specs.Temperature.{correction}
-use Rattle.blend.specs.Blend.{sumOf, unit, held, weight, blendLimit}
-use Rattle.blend.specs.Held.{Within, Rated}
-use Rattle.oxygen.specs.Held.{weight as limitWeight}
-use Rattle.blend.proofs.Weights.{weight-is}
+use Rattle.blend.specs.Blend.{sumOf, unit, held, blendLimit}
+use Rattle.blend.specs.Internal.{Within, Rated}
 use Rattle.blend.proofs.LeChatelier.{from-sums-is}
-
-pub weight-lower : (q : ℕ) → weight lower q ≡ 2171 * q + 4679
-unfolding limitWeight
-weight-lower q = weight-is lower q
-
-pub weight-upper-low : (q : ℕ) → q ≤ 30 → weight upper q ≡ 775 * q + 1120
-unfolding limitWeight
-weight-upper-low q l = weight-is upper q ∙ rw (le-leb q 30 l)
-
-pub weight-upper-high : (q : ℕ) → 30 < q → weight upper q ≡ 384 * q + 13108
-unfolding limitWeight
-weight-upper-high q l = weight-is upper q ∙ rw (lt-leb q 30 l)
 
 -- V / (sum / 100) times y / d, in hundredths
 corrected : (s : Side) (b : Blend) (y d n m : ℕ) → 0 < sumOf s b → 0 < d → 0 < m → 100 * (b .total * (100 * unit s) * y) * m ≡ n * (1 * (sumOf s b * d))
@@ -34,18 +20,36 @@ corrected : (s : Side) (b : Blend) (y d n m : ℕ) → 0 < sumOf s b → 0 < d �
 corrected s b y d n m p h k e = figure-is (is-same (is-times (is-whole 100) (is-times (from-sums-is s b p) (is-over y d h))) k e)
 
 pub lower-figure : (b : Blend) (t : ℕ) → 0 < b .lower → roundDiv (25000 * b .total * (127700 - t)) (313 * b .lower) ≡ blendLimit lower b t
-unfolding blendLimit correction unit
+unfolding blendLimit correction
 lower-figure b t p = sym (go (127700 - t))
   where
     go : (y : ℕ) → figure (whole 100 ⊠ ((whole (b .total) ⊘ (held lower b ⊘ whole 100)) ⊠ (y over 125200))) ≡ roundDiv (25000 * b .total * y) (313 * b .lower)
     go y = corrected lower b y 125200 (25000 * b .total * y) (313 * b .lower) p (omega arith) (omega arith) (omega arith)
 
 pub upper-figure : (b : Blend) (t : ℕ) → 0 < b .upper → roundDiv (50000 * b .total * (t + 78700)) (203 * b .upper) ≡ blendLimit upper b t
-unfolding blendLimit correction unit
+unfolding blendLimit correction
 upper-figure b t p = sym (go (t + 78700))
   where
     go : (y : ℕ) → figure (whole 100 ⊠ ((whole (b .total) ⊘ (held upper b ⊘ whole 100)) ⊠ (y over 81200))) ≡ roundDiv (50000 * b .total * y) (203 * b .upper)
     go y = corrected upper b y 81200 (50000 * b .total * y) (203 * b .upper) p (omega arith) (omega arith) (omega arith)
+
+-- AT MOST 100.00 %
+small : (n d : ℕ) → 0 < d → n ≤ 10000 * d → roundDiv n d ≤ 10000
+unfolding roundDiv
+small n d h l = round-mono n d 10000 1 h (omega arith) (omega arith)
+
+module _ (b : Blend) (t : ℕ) (w : Within b) (some : 0 < b .total) (warm : t ≤ 20000) where
+  pub lower-most : blendLimit lower b t ≤ 10000
+  lower-most =
+      let cold : 127700 - t ≤ 127700 = omega arith in
+      let m = mul-le-mul-left (b .total) cold in
+      rw (← lower-figure b t (omega arith)) (small _ _ (omega arith) (omega arith))
+
+  pub upper-most : blendLimit upper b t ≤ 10000
+  upper-most =
+      let hot : t + 78700 ≤ 98700 = omega arith in
+      let m = mul-le-mul-left (b .total) hot in
+      rw (← upper-figure b t (omega arith)) (small _ _ (omega arith) (omega arith))
 
 -- SIZES
 pub weighed : {v x : ℕ} → v ≤ 1000000 → x ≤ 10000000 → v * x ≤ 1000000 * 10000000

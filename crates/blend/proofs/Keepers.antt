@@ -2,14 +2,13 @@
 use mathlib.Core.Path.{_≡_, refl, ap, ap₂}
 use mathlib.Core.Bool.{Bool, true, false, cond}
 use mathlib.Core.List.{List, [], _∷_}
-use mathlib.Core.Option.{Option}
 use Prim.Native.Nat.{ℕ}
 use lib.Dec.{eqb}
-use lib.IntN.{ℤ}
-use Rattle.refusal.specs.declared.Refusal.{Refusal}
-use Rattle.refusal.specs.Outcome.{Outcome, refused, answered, refuse, valueOf}
+use Rattle.answer.specs.declared.Refusal.{Refusal}
+use Rattle.answer.specs.Outcome.{Outcome, refused, answered, refuse, valueOf}
 use Rattle.blend.specs.Fuel.{Fuel}
-use Rattle.blend.specs.Calls.{Call, add, join, ask, Keeper, changed, told, put, answerTo, next, answers, after}
+use Rattle.blend.specs.Blend.{Question}
+use Rattle.blend.specs.Calls.{Call, add, join, ask, Keeper, changed, toldOf, put, answerTo, next, answers, after}
 
 -- the same refusal, or answers that correspond
 pub data Alike {S T : Type 0} (R : S → T → Type 0) : Outcome S → Outcome T → Type 0 where
@@ -34,7 +33,7 @@ module _ {S T : Type 0} {R : S → T → Type 0} where
 pub record Follows {S T : Type 0} (R : S → T → Type 0) (k : Keeper S) (m : Keeper T) : Type 0 where
   pub adds : (x : S) (y : T) → R x y → (f : Fuel) (v : ℕ) → Alike R (k .adds x f v) (m .adds y f v)
   pub joins : (x x′ : S) (y y′ : T) → R x y → R x′ y′ → Alike R (k .joins x x′) (m .joins y y′)
-  pub asks : (x : S) (y : T) → R x y → (t : Option ℤ) → k .asks x t ≡ m .asks y t
+  pub asks : (x : S) (y : T) → R x y → (q : Question) → k .asks x q ≡ m .asks y q
 
 module _ {S T : Type 0} (R : S → T → Type 0) (k : Keeper S) (m : Keeper T) (follows : Follows R k m) where
   abbrev Hold : (ℕ → S) → (ℕ → T) → Type 0
@@ -54,13 +53,13 @@ module _ {S T : Type 0} (R : S → T → Type 0) (k : Keeper S) (m : Keeper T) (
     unfolding answerTo
     answer-alike (add i f v) = changed-alike (follows .adds (xs i) (ys i) (h i) f v)
     answer-alike (join i j) = changed-alike (follows .joins (xs i) (xs j) (ys i) (ys j) (h i) (h j))
-    answer-alike (ask i t) = ap told (follows .asks (xs i) (ys i) (h i) t)
+    answer-alike (ask i q) = ap (toldOf q) (follows .asks (xs i) (ys i) (h i) q)
 
     next-hold : (c : Call) → Hold (next k xs c) (next m ys c)
     unfolding next
     next-hold (add i f v) = put-hold xs ys h i _ _ (value-alike (follows .adds (xs i) (ys i) (h i) f v) (h i))
     next-hold (join i j) = put-hold xs ys h i _ _ (value-alike (follows .joins (xs i) (xs j) (ys i) (ys j) (h i) (h j)) (h i))
-    next-hold (ask i t) = h
+    next-hold (ask i q) = h
 
   -- every list of calls
   pub after-hold : (xs : ℕ → S) (ys : ℕ → T) → Hold xs ys → (cs : List Call) → Hold (after k xs cs) (after m ys cs)

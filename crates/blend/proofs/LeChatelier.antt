@@ -2,23 +2,21 @@
 use mathlib.Core.Path.{_≡_, refl, sym, ap, _∙_}
 use mathlib.Core.Bool.{Bool, true, false}
 use mathlib.Core.List.{[], _∷_}
-use mathlib.Core.Option.{Option}
 use Prim.Native.Nat.{ℕ, _+_, _*_, _-_, _≤_, _<_}
 use native.Mathlib.Nat.{le-refl, mul-le-mul-left, mul-pos, pos-of-ne-zero}
 use native.Mathlib.Omega.{arith}
 use lib.Dec.{eqb}
-use lib.IntN.{ℤ, natAbs}
+use lib.IntN.{natAbs}
 use borrow.Author.Tests.{eqb-true, eqb-false, eq-eqb, ne-eqb}
 use Rattle.rounding.specs.Fraction.{Fraction, _over_, whole, _⊠_, _⊘_, figure}
 use Rattle.rounding.proofs.Fractions.{Is, is-over, is-whole, is-plus, is-times, is-by, is-same, figure-is}
-use Rattle.oxygen.specs.Beta.{beta}
-use Rattle.oxygen.specs.Limit.{Side, lower, upper}
+use Rattle.blend.specs.Limit.{Side, lower, upper}
 use Rattle.blend.specs.declared.Blend.{Blend}
 use Rattle.blend.specs.Temperature.{meant, correction}
-use Rattle.blend.specs.Blend.{sumOf, unit, held, blendLimit}
-use Rattle.blend.specs.Model.{Entry, Entries, sum, total, fuelLimit, shares, leChatelier, limitAt, limitFigure, modelAsks}
+use Rattle.blend.specs.Fuel.{quarters}
+use Rattle.blend.specs.Blend.{Question, limits, sumOf, unit, held, blendLimit}
+use Rattle.blend.specs.Model.{Entry, Entries, sum, total, fuelLimit, shares, leChatelier, limitAt, limitFigure, modelTells, modelAsks}
 use Rattle.blend.proofs.Weights.{unit-positive, limit-is, weight-positive}
-use Rattle.blend.proofs.Bounds.{held-is}
 use Rattle.blend.proofs.Sums.{weighs, blendOf, Times}
 
 pub correction-is : (s : Side) (t : ℕ) → Is (correction s t) (correction s t .num) (correction s t .den)
@@ -36,7 +34,7 @@ module _ (s : Side) where
   unfolding sum
   total-weighs [] = le-refl 0
   total-weighs (e ∷ es) =
-      let a = mul-le-mul-left (e .parts) (weight-positive s (natAbs (beta (e .fuel)))) in
+      let a = mul-le-mul-left (e .parts) (weight-positive s (quarters (e .fuel))) in
       let b = total-weighs es in
       omega arith
 
@@ -44,7 +42,7 @@ module _ (s : Side) where
   unfolding fuelLimit
   share-is e =
       let u = unit-positive s in
-      is-same (is-by (is-whole (e .parts)) (limit-is s (natAbs (beta (e .fuel)))) (omega arith)) (omega arith) (omega arith)
+      is-same (is-by (is-whole (e .parts)) (limit-is s (quarters (e .fuel))) (omega arith)) (omega arith) (omega arith)
 
   shares-is : (es : Entries) → Is (shares s es) (sum (weighs s) es) (100 * unit s)
   unfolding shares sum
@@ -59,9 +57,11 @@ module _ (s : Side) where
 
   -- the same from the total and the sum that a blend holds
   pub from-sums-is : (b : Blend) → 0 < sumOf s b → Is (whole (b .total) ⊘ (held s b ⊘ whole 100)) (b .total * (100 * unit s)) (sumOf s b)
+  unfolding held
   from-sums-is b h =
       let u = unit-positive s in
-      let hundredth : Is (held s b ⊘ whole 100) (sumOf s b) (100 * unit s) = is-same (is-by (held-is s b) (is-whole 100) (omega arith)) (omega arith) (omega arith) in
+      let sum-is = is-over (sumOf s b) (unit s) u in
+      let hundredth = is-same {m = sumOf s b} {e = 100 * unit s} (is-by sum-is (is-whole 100) (omega arith)) (omega arith) (omega arith) in
       is-same (is-by (is-whole (b .total)) hundredth h) h (omega arith)
 
   -- one value, one figure
@@ -82,16 +82,20 @@ module _ (s : Side) where
         same-at (is-same (le-chatelier-is es h) (j .pos) (rw (x .total-times, x .weight-times s) (omega arith))) j
 
 -- entries with k times the figures of others answer as those
-pub asks-times : (k : ℕ) (es fs : Entries) → 0 < k → Times k es fs → (t : Option ℤ) → modelAsks es t ≡ modelAsks fs t
-unfolding modelAsks
-asks-times k es fs p x t = go (eqb (total fs) 0) refl
-  where
-    go : (b : Bool) → eqb (total fs) 0 ≡ b → modelAsks es t ≡ modelAsks fs t
-    go true e =
-        let z = ap (λ (n : ℕ). k * n) (eqb-true (total fs) 0 e) in
-        rw (e, eq-eqb (total es) 0 (omega (arith, x .total-times)))
-    go false e =
-        let g : 0 < total fs = pos-of-ne-zero (eqb-false (total fs) 0 e) in
-        let h : 0 < total es = rw (x .total-times) (mul-pos p g) in
-        let same : (s : Side) → limitFigure s es (natAbs (meant t)) ≡ limitFigure s fs (natAbs (meant t)) = λ s. limit-times s (natAbs (meant t)) k es fs x h g in
-        rw (e, ne-eqb (total es) 0 (λ (z : total es ≡ 0). omega arith), same lower, same upper)
+module _ (k : ℕ) (es fs : Entries) (x : Times k es fs) where
+  tells-times : 0 < total es → 0 < total fs → (q : Question) → modelTells es q ≡ modelTells fs q
+  unfolding modelTells
+  tells-times h g (limits t) = rw (limit-times lower (natAbs (meant t)) k es fs x h g, limit-times upper (natAbs (meant t)) k es fs x h g)
+
+  pub asks-times : 0 < k → (q : Question) → modelAsks es q ≡ modelAsks fs q
+  unfolding modelAsks
+  asks-times p q = go (eqb (total fs) 0) refl
+    where
+      go : (b : Bool) → eqb (total fs) 0 ≡ b → modelAsks es q ≡ modelAsks fs q
+      go true e =
+          let z = ap (λ (n : ℕ). k * n) (eqb-true (total fs) 0 e) in
+          rw (e, eq-eqb (total es) 0 (omega (arith, x .total-times)))
+      go false e =
+          let g : 0 < total fs = pos-of-ne-zero (eqb-false (total fs) 0 e) in
+          let h : 0 < total es = rw (x .total-times) (mul-pos p g) in
+          rw (e, ne-eqb (total es) 0 (λ (z : total es ≡ 0). omega arith)) (tells-times h g q)

@@ -1,4 +1,3 @@
-pub mod Temperatures
 pub mod Weights
 pub mod Bounds
 pub mod Admitted
@@ -11,4 +10,5 @@ pub mod Refusals
 pub mod Routes
 pub mod Theorem
 pub mod Figures
-pub mod Answers
+pub mod Masses
+pub mod Told

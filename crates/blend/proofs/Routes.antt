@@ -7,9 +7,9 @@ use native.Mathlib.Omega.{arith}
 use lib.Dec.{ltb, eqb}
 use borrow.Author.Tests.{lt-ltb, le-ltb, ltb-true, ltb-false, ne-eqb, eq-eqb}
 use Rattle.blend.specs.Calls.{Call, put, answers, after}
-use Rattle.blend.specs.Model.{Entry, Entries, sum, total, entryOf, model}
+use Rattle.blend.specs.Model.{Entry, entry, Entries, sum, total, model}
 use Rattle.blend.specs.Claims.{Without, here, there, Absent, Different, Route, left, adds, joins, refusedSomewhere, modelAnswers, entries}
-use Rattle.blend.proofs.Sums.{partsOf, sum-append}
+use Rattle.blend.proofs.Sums.{parts, sum-append}
 use Rattle.blend.proofs.Refusals.{Appends, add-appends, join-appends}
 
 -- SUMS OVER BLENDS
@@ -99,13 +99,13 @@ unfolding put
 small-appended pages i es s h j = go (eqb j i)
   where
     go : (b : Bool) → total (cond b (pages i ++ es) (pages j)) ≤ 1000000
-    go true = rw (sum-append partsOf (pages i) es) h
+    go true = rw (sum-append parts (pages i) es) h
     go false = s j
 
 -- the rest of a route, calls cs, from some entries on
 record Arrives (w : ℕ) (bs : List ℕ) (es : Entries) (cs : List Call) (pages : ℕ → Entries) : Type 0 where
-  refused : refusedSomewhere (answers model pages cs) ≡ ltb 1000000 (tally partsOf pages bs + total es)
-  has : tally partsOf pages bs + total es ≤ 1000000 → (f : Entry → ℕ) → sum f (after model pages cs w) ≡ tally f pages bs + sum f es
+  refused : refusedSomewhere (answers model pages cs) ≡ ltb 1000000 (tally parts pages bs + total es)
+  has : tally parts pages bs + total es ≤ 1000000 → (f : Entry → ℕ) → sum f (after model pages cs w) ≡ tally f pages bs + sum f es
 
 -- one call more
 module _ (pages : ℕ → Entries) (small : Small pages) (c : Call) (i : ℕ) (r : Entries) (step : Appends pages c i r)
@@ -123,24 +123,24 @@ module _ (pages : ℕ → Entries) (small : Small pages) (c : Call) (i : ℕ) (r
       go true e =
           let l = ltb-true 1000000 (total (pages i) + total r) e in
           let o = over-one (λ j. total (pages j)) m in
-          let k = keeps partsOf in
-          let h : 1000000 < tally partsOf pages bs + total es = omega arith in
+          let k = keeps parts in
+          let h : 1000000 < tally parts pages bs + total es = omega arith in
           record { refused = rw (step .refuses, e) (sym (lt-ltb _ _ h)); has = λ g. absurd (omega arith) }
       go false e =
           let l = ltb-false 1000000 (total (pages i) + total r) e in
           let t = later (small-appended pages i r small l) in
           record {
-            refused = rw (step .refuses, e, step .leaves l) (t .refused ∙ ap (ltb 1000000) (same partsOf));
-            has = λ g f. rw (step .leaves l) (t .has (rw (same partsOf) g) f ∙ same f);
+            refused = rw (step .refuses, e, step .leaves l) (t .refused ∙ ap (ltb 1000000) (same parts));
+            has = λ g f. rw (step .leaves l) (t .has (rw (same parts) g) f ∙ same f);
           }
 
 arrives : {w : ℕ} {bs : List ℕ} {es : Entries} {cs : List Call} → Route w bs es cs → Different bs →
     (pages : ℕ → Entries) → Small pages → Arrives w bs es cs pages
 unfolding answers after refusedSomewhere over sum
 arrives {w} left d pages s = record { refused = sym (le-ltb 1000000 (total (pages w) + 0 + 0) (omega (arith, s w))); has = λ g f. omega arith }
-arrives (adds {i = i} {f = f} {v = v} m a r) d pages s =
-    one-more pages s _ i (entryOf f v ∷ []) (add-appends pages i f v a) m d (λ g. omega arith)
-    (λ l. arrives r d (appended pages i (entryOf f v ∷ [])) l)
+arrives (adds {i = i} {f = f} {a = a} {v = v} m e r) d pages s =
+    one-more pages s _ i (entry a v ∷ []) (add-appends pages i f a v e) m d (λ g. omega arith)
+    (λ l. arrives r d (appended pages i (entry a v ∷ [])) l)
 arrives (joins {i = i} {j = j} o m r) d pages s =
     let d′ = different-without d o in
     one-more pages s _ i (pages j) (join-appends pages i j) m d′ (λ g. omega (arith, over-without (λ x. sum g (pages x)) o))
@@ -157,7 +157,7 @@ module _ {w : ℕ} {bs : List ℕ} {es : Entries} {cs : List Call} (r : Route w 
   from-none = arrives r d (λ i. []) (λ i. omega arith)
 
   pub route-refused : refusedSomewhere (modelAnswers cs) ≡ ltb 1000000 (total es)
-  route-refused = from-none .refused ∙ ap (ltb 1000000) (all-left partsOf)
+  route-refused = from-none .refused ∙ ap (ltb 1000000) (all-left parts)
 
   pub route-has : total es ≤ 1000000 → (f : Entry → ℕ) → sum f (entries cs w) ≡ sum f es
-  route-has h f = from-none .has (rw (all-left partsOf) h) f ∙ all-left f
+  route-has h f = from-none .has (rw (all-left parts) h) f ∙ all-left f

@@ -2,67 +2,64 @@
 use mathlib.Core.Path.{_≡_, refl, subst}
 use mathlib.Core.Bool.{Bool, true, false}
 use mathlib.Core.List.{List, [], _∷_, _++_}
-use mathlib.Core.Option.{Option}
-use Prim.Native.Nat.{ℕ, _+_, _≤_}
+use Prim.Native.Nat.{ℕ, _+_, _≤_, _<_}
 use native.Mathlib.Nat.{mul-le-mul-left, pos-of-ne-zero}
 use native.Mathlib.Omega.{arith}
 use lib.Dec.{ltb, eqb}
-use lib.IntN.{ℤ, natAbs}
+use lib.IntN.{natAbs}
 use borrow.Author.Tests.{ltb-false, eqb-false}
-use Rattle.refusal.specs.Numbers.{totalTooLarge}
-use Rattle.refusal.specs.Outcome.{Outcome, refused, answered}
-use Rattle.oxygen.specs.Limit.{lower, upper}
-use Rattle.oxygen.specs.Held.{least as leastWeight, greatest as greatestWeight}
+use Rattle.answer.specs.Numbers.{totalTooLarge}
+use Rattle.answer.specs.Outcome.{Outcome, refused, answered}
+use Rattle.elements.specs.declared.Atoms.{Atoms}
+use Rattle.blend.specs.Limit.{lower, upper}
 use Rattle.blend.specs.declared.Blend.{Blend}
 use Rattle.blend.specs.Temperature.{meant}
-use Rattle.blend.specs.Fuel.{Fuel, fuelBeta}
-use Rattle.blend.specs.Blend.{emptyBlend, within, withFuel, taking, adding, together, joining, asking}
-use Rattle.blend.specs.Held.{Within}
+use Rattle.blend.specs.Fuel.{Fuel, admitting, quarters}
+use Rattle.blend.specs.Blend.{emptyBlend, within, withFuel, taking, adding, together, joining, Question, limits, telling, asking}
+use Rattle.blend.specs.Internal.{Within}
 use Rattle.blend.specs.Calls.{Call, answerTo}
-use Rattle.blend.specs.Model.{Entries, sum, total, entryOf, modelAdds, modelJoins, modelAsks, model}
+use Rattle.blend.specs.Model.{entry, Entries, sum, total, modelAdds, modelJoins, modelTells, modelAsks, model}
 use Rattle.blend.specs.Claims.{keeper, blends, entries, blendAnswers, modelAnswers}
-use Rattle.blend.proofs.Admitted.{fuel-beta}
 use Rattle.blend.proofs.Weights.{weight-least, weight-most}
 use Rattle.blend.proofs.Bounds.{within-test}
+use Rattle.blend.proofs.Admitted.{AdmittedFuel, admitted-fuel}
 use Rattle.blend.proofs.Sums.{blendOf, sum-append, sum-one}
 use Rattle.blend.proofs.LeChatelier.{blend-limit}
 use Rattle.blend.proofs.Keepers.{Alike, refusing, answering, refuse-alike, Follows, answer-alike, after-hold, answers-alike}
 
-record Holds (b : Blend) (es : Entries) : Type 0 where
+record Represents (b : Blend) (es : Entries) : Type 0 where
   is : b ≡ blendOf es
   fit : Within (blendOf es)
 
-empty-holds : Holds emptyBlend []
+empty-represents : Represents emptyBlend []
 unfolding sum
-empty-holds = record { is = refl; fit = omega arith }
+empty-represents = record { is = refl; fit = omega arith }
 
 -- ADDING
-module _ (es : Entries) (w : Within (blendOf es)) (f : Fuel) (v : ℕ) (q : ℕ) (e : fuelBeta f ≡ answered q) where
-  more-is : withFuel (blendOf es) v q ≡ blendOf (es ++ (entryOf f v ∷ []))
-  more-is = rw (fuel-beta f q e .is) (simp (sum-append, sum-one))
+module _ (es : Entries) (w : Within (blendOf es)) (a : Atoms) (known : AdmittedFuel a) (v : ℕ) where
+  more-is : withFuel (blendOf es) (quarters a) v ≡ blendOf (es ++ (entry a v ∷ []))
+  more-is = simp (sum-append, sum-one)
 
-  more-fits : total es + v ≤ 1000000 → Within (withFuel (blendOf es) v q)
-  unfolding leastWeight greatestWeight
+  more-fits : total es + v ≤ 1000000 → Within (withFuel (blendOf es) (quarters a) v)
   more-fits m =
-      let b = fuel-beta f q e in
-      let l₀ = mul-le-mul-left v (weight-least lower q (b .least)) in
-      let l₁ = mul-le-mul-left v (weight-most lower q (b .most)) in
-      let u₀ = mul-le-mul-left v (weight-least upper q (b .least)) in
-      let u₁ = mul-le-mul-left v (weight-most upper q (b .most)) in
+      let l₀ = mul-le-mul-left v (weight-least lower (quarters a) (known .least)) in
+      let l₁ = mul-le-mul-left v (weight-most lower (quarters a) (known .most)) in
+      let u₀ = mul-le-mul-left v (weight-least upper (quarters a) (known .least)) in
+      let u₁ = mul-le-mul-left v (weight-most upper (quarters a) (known .most)) in
       omega arith
 
-  more-holds : ltb 1000000 (total es + v) ≡ false → Holds (withFuel (blendOf es) v q) (es ++ (entryOf f v ∷ []))
-  more-holds n = record { is = more-is; fit = subst Within more-is (more-fits (ltb-false 1000000 (total es + v) n)) }
+  more-represents : ltb 1000000 (total es + v) ≡ false → Represents (withFuel (blendOf es) (quarters a) v) (es ++ (entry a v ∷ []))
+  more-represents n = record { is = more-is; fit = subst Within more-is (more-fits (ltb-false 1000000 (total es + v) n)) }
 
-adds-alike : (b : Blend) (es : Entries) → Holds b es → (f : Fuel) (v : ℕ) → Alike Holds (adding b f v) (modelAdds es f v)
+adds-alike : (b : Blend) (es : Entries) → Represents b es → (f : Fuel) (v : ℕ) → Alike Represents (adding b f v) (modelAdds es f v)
 unfolding adding taking modelAdds
-adds-alike b es h f v = go (fuelBeta f) refl
+adds-alike b es h f v = go (admitting f) refl
   where
-    go : (o : Outcome ℕ) → fuelBeta f ≡ o → Alike Holds (adding b f v) (modelAdds es f v)
+    go : (o : Outcome Atoms) → admitting f ≡ o → Alike Represents (adding b f v) (modelAdds es f v)
     go (refused r) e = rw (h .is, within-test (blendOf es) (h .fit), e) refusing
-    go (answered q) e =
+    go (answered a) e =
         rw (h .is, within-test (blendOf es) (h .fit), e)
-        (refuse-alike totalTooLarge 0 (ltb 1000000 (total es + v)) (λ n. answering (more-holds es (h .fit) f v q e n)))
+        (refuse-alike totalTooLarge 0 (ltb 1000000 (total es + v)) (λ n. answering (more-represents es (h .fit) a (admitted-fuel f a e) v n)))
 
 -- JOINING
 module _ (es fs : Entries) (w : Within (blendOf es)) (x : Within (blendOf fs)) where
@@ -72,42 +69,44 @@ module _ (es fs : Entries) (w : Within (blendOf es)) (x : Within (blendOf fs)) w
   both-fit : total es + total fs ≤ 1000000 → Within (together (blendOf es) (blendOf fs))
   both-fit m = omega arith
 
-  both-hold : ltb 1000000 (total es + total fs) ≡ false → Holds (together (blendOf es) (blendOf fs)) (es ++ fs)
-  both-hold n = record { is = both-is; fit = subst Within both-is (both-fit (ltb-false 1000000 (total es + total fs) n)) }
+  both-represent : ltb 1000000 (total es + total fs) ≡ false → Represents (together (blendOf es) (blendOf fs)) (es ++ fs)
+  both-represent n = record { is = both-is; fit = subst Within both-is (both-fit (ltb-false 1000000 (total es + total fs) n)) }
 
-joins-alike : (b c : Blend) (es fs : Entries) → Holds b es → Holds c fs → Alike Holds (joining b c) (modelJoins es fs)
+joins-alike : (b c : Blend) (es fs : Entries) → Represents b es → Represents c fs → Alike Represents (joining b c) (modelJoins es fs)
 unfolding joining modelJoins
 joins-alike b c es fs h k =
     rw (h .is, k .is, within-test (blendOf es) (h .fit), within-test (blendOf fs) (k .fit))
-    (refuse-alike totalTooLarge 0 (ltb 1000000 (total es + total fs)) (λ n. answering (both-hold es fs (h .fit) (k .fit) n)))
+    (refuse-alike totalTooLarge 0 (ltb 1000000 (total es + total fs)) (λ n. answering (both-represent es fs (h .fit) (k .fit) n)))
 
 -- ASKING
-asks-alike : (b : Blend) (es : Entries) → Holds b es → (t : Option ℤ) → asking b t ≡ modelAsks es t
+tells-alike : (es : Entries) → 0 < total es → (q : Question) → telling (blendOf es) q ≡ modelTells es q
+unfolding telling modelTells
+tells-alike es v (limits t) = rw (blend-limit lower (natAbs (meant t)) es v, blend-limit upper (natAbs (meant t)) es v)
+
+asks-alike : (b : Blend) (es : Entries) → Represents b es → (q : Question) → asking b q ≡ modelAsks es q
 unfolding asking modelAsks
-asks-alike b es h t = go (eqb (total es) 0) refl
+asks-alike b es h q = go (eqb (total es) 0) refl
   where
-    go : (z : Bool) → eqb (total es) 0 ≡ z → asking b t ≡ modelAsks es t
+    go : (z : Bool) → eqb (total es) 0 ≡ z → asking b q ≡ modelAsks es q
     go true e = rw (h .is, within-test (blendOf es) (h .fit), e)
-    go false e =
-        let v = pos-of-ne-zero (eqb-false (total es) 0 e) in
-        rw (h .is, within-test (blendOf es) (h .fit), blend-limit lower (natAbs (meant t)) es v, blend-limit upper (natAbs (meant t)) es v)
+    go false e = rw (h .is, within-test (blendOf es) (h .fit), e) (tells-alike es (pos-of-ne-zero (eqb-false (total es) 0 e)) q)
 
 -- EVERY LIST OF CALLS
-follows : Follows Holds keeper model
+follows : Follows Represents keeper model
 follows = record { adds = adds-alike; joins = joins-alike; asks = asks-alike }
 
 module _ (calls : List Call) where
-  holds : (i : ℕ) → Holds (blends calls i) (entries calls i)
-  holds = after-hold Holds keeper model follows (λ i. emptyBlend) (λ i. []) (λ i. empty-holds) calls
+  represents : (i : ℕ) → Represents (blends calls i) (entries calls i)
+  represents = after-hold Represents keeper model follows (λ i. emptyBlend) (λ i. []) (λ i. empty-represents) calls
 
   pub all-alike : blendAnswers calls ≡ modelAnswers calls
-  all-alike = answers-alike Holds keeper model follows (λ i. emptyBlend) (λ i. []) (λ i. empty-holds) calls
+  all-alike = answers-alike Represents keeper model follows (λ i. emptyBlend) (λ i. []) (λ i. empty-represents) calls
 
   pub next-alike : (c : Call) → answerTo keeper (blends calls) c ≡ answerTo model (entries calls) c
-  next-alike c = answer-alike Holds keeper model follows (blends calls) (entries calls) holds c
+  next-alike c = answer-alike Represents keeper model follows (blends calls) (entries calls) represents c
 
-  pub by-model : (i : ℕ) (t : Option ℤ) → asking (blends calls i) t ≡ modelAsks (entries calls i) t
-  by-model i t = asks-alike (blends calls i) (entries calls i) (holds i) t
+  pub by-model : (i : ℕ) (q : Question) → asking (blends calls i) q ≡ modelAsks (entries calls i) q
+  by-model i q = asks-alike (blends calls i) (entries calls i) (represents i) q
 
   pub in-bounds : (i : ℕ) → within (blends calls i) ≡ true
-  in-bounds i = rw (holds i .is) (within-test (blendOf (entries calls i)) (holds i .fit))
+  in-bounds i = rw (represents i .is) (within-test (blendOf (entries calls i)) (represents i .fit))

@@ -4,13 +4,12 @@ use mathlib.Core.List.{[], _∷_, _++_, List·Permᴰ, List·Permᴰ·nil, List�
 use Prim.Native.Nat.{ℕ, _+_, _*_}
 use native.Mathlib.Nat.{add-assoc, zero-add}
 use native.Mathlib.Omega.{arith}
-use lib.IntN.{natAbs}
-use Rattle.formula.specs.declared.Atoms.{Atoms}
-use Rattle.oxygen.specs.Beta.{beta}
-use Rattle.oxygen.specs.Limit.{Side, lower, upper}
+use Rattle.elements.specs.declared.Atoms.{Atoms}
+use Rattle.blend.specs.Limit.{Side, lower, upper}
 use Rattle.blend.specs.declared.Blend.{Blend}
+use Rattle.blend.specs.Fuel.{quarters}
 use Rattle.blend.specs.Blend.{weight}
-use Rattle.blend.specs.Model.{Entry, Entries, sum, total}
+use Rattle.blend.specs.Model.{Entry, entry, Entries, sum, total}
 use Rattle.blend.specs.Claims.{scaled}
 
 module _ (f : Entry → ℕ) where
@@ -35,7 +34,7 @@ module _ (f : Entry → ℕ) where
   sum-perm (List·Permᴰ·trans d₁ d₂) = sum-perm d₁ ∙ sum-perm d₂
 
   -- all parts times k
-  pub sum-scaled : (k : ℕ) → ((e : Entry) → f (record { fuel = e .fuel; parts = k * e .parts }) ≡ k * f e) → (es : Entries) → sum f (scaled k es) ≡ k * sum f es
+  pub sum-scaled : (k : ℕ) → ((e : Entry) → f (entry (e .fuel) (k * e .parts)) ≡ k * f e) → (es : Entries) → sum f (scaled k es) ≡ k * sum f es
   unfolding sum scaled
   sum-scaled k h [] = omega arith
   sum-scaled k h (e ∷ es) =
@@ -44,11 +43,11 @@ module _ (f : Entry → ℕ) where
       omega arith
 
 -- parts; and parts times aβ + b, in the unit of the sums
-abbrev pub partsOf : Entry → ℕ
-partsOf e = e .parts
+abbrev pub parts : Entry → ℕ
+parts e = e .parts
 
 abbrev pub weightOf : Side → Atoms → ℕ
-weightOf s a = weight s (natAbs (beta a))
+weightOf s a = weight s (quarters a)
 
 abbrev pub weighs : Side → Entry → ℕ
 weighs s e = e .parts * weightOf s (e .fuel)
@@ -64,9 +63,9 @@ pub record Times (k : ℕ) (es fs : Entries) : Type 0 where
 
 pub times-scaled : (k : ℕ) (fs : Entries) {es : Entries} → List·Permᴰ es (scaled k fs) → Times k es fs
 times-scaled k fs p = record {
-  total-times = sum-perm partsOf p ∙ sum-scaled partsOf k (λ e. refl) fs;
+  total-times = sum-perm parts p ∙ sum-scaled parts k (λ e. refl) fs;
   weight-times = λ s. sum-perm (weighs s) p ∙ sum-scaled (weighs s) k (λ e. omega arith) fs;
 }
 
 pub times-one : (es fs : Entries) → ((f : Entry → ℕ) → sum f es ≡ sum f fs) → Times 1 es fs
-times-one es fs h = record { total-times = omega (arith, h partsOf); weight-times = λ s. omega (arith, h (weighs s)) }
+times-one es fs h = record { total-times = omega (arith, h parts); weight-times = λ s. omega (arith, h (weighs s)) }

@@ -1,53 +1,55 @@
 -- Blends, document 01's pools: what the functions on one answer.
-use mathlib.Core.Bool.{Bool, not, _&&_}
+use mathlib.Core.Bool.{Bool, not, _&&_, cond}
 use mathlib.Core.Option.{Option}
-use Prim.Native.Nat.{ℕ, _+_, _*_, _/_}
+use Prim.Native.Nat.{ℕ, _+_, _*_}
 use lib.Dec.{leb, ltb, eqb}
 use lib.IntN.{ℤ, natAbs}
-use Rattle.refusal.specs.Numbers.{totalTooLarge, blendEmpty, gasTemperatureOutside, blendOutOfBounds}
-use Rattle.refusal.specs.Outcome.{Outcome, answered, refuse, refusalOf, valueOf, andThen}
-use Rattle.rounding.specs.Fraction.{Fraction, _over_, whole, _⊠_, _⊘_, atMost, figure}
-use Rattle.oxygen.specs.Limit.{Side, lower, upper, slope, constant}
+use Rattle.answer.specs.Numbers.{totalTooLarge, blendEmpty, gasTemperatureOutside, blendOutOfBounds}
+use Rattle.answer.specs.Outcome.{Outcome, answered, refuse, refusalOf, valueOf, andThen}
+use Rattle.rounding.specs.Fraction.{Fraction, _over_, whole, _⊠_, _⊘_, figure}
+use Rattle.elements.specs.declared.Atoms.{Atoms}
 use Rattle.blend.specs.declared.Blend.{Blend}
 use Rattle.blend.specs.declared.Blended.{Blended}
 use Rattle.blend.specs.declared.Limits.{Limits}
-use Rattle.blend.specs.Temperature.{meant, gasTemperature, correction}
-use Rattle.blend.specs.Fuel.{Fuel, fuelBeta}
+use Rattle.blend.specs.Limit.{Side, lower, upper}
+use Rattle.blend.specs.Temperature.{meant, gasOutside, correction}
+use Rattle.blend.specs.Fuel.{Fuel, admitting, quarters}
 
 -- a blend by its numbers
-abbrev pub holding : ℕ → ℕ → ℕ → Blend
-holding total lowers uppers = record { total = total; lower = lowers; upper = uppers }
+abbrev pub blend : ℕ → ℕ → ℕ → Blend
+blend total lowers uppers = record { total = total; lower = lowers; upper = uppers }
 
 abbrev pub emptyBlend : Blend
-emptyBlend = holding 0 0 0
+emptyBlend = blend 0 0 0
 
 -- THE SUMS. Σ v (aβ + b) over all that a blend took in, which it holds in units that keep it whole: lower in thousandths, upper in two-thousandths.
 abbrev pub sumOf : Side → Blend → ℕ
 sumOf lower b = b .lower
 sumOf upper b = b .upper
 
-unfoldable pub unit : Side → ℕ
+abbrev pub unit : Side → ℕ
 unit lower = 1000
 unit upper = 2000
 
 unfoldable pub held : Side → Blend → Fraction
 held s b = sumOf s b over unit s
 
--- aβ + b in that unit, of β in quarters and a and b in thousandths
+-- aβ + b in that unit, of β in quarters: 8.684 β + 4.679; 1.550 β + 0.560 where β ≤ 7.5 and 0.768 β + 6.554 where not
 unfoldable pub weight : Side → ℕ → ℕ
-weight s q = unit s * (slope s q * q + 4 * constant s q) / 4000
+weight lower q = 2171 * q + 4679
+weight upper q = cond (leb q 30) (775 * q + 1120) (384 * q + 13108)
 
--- THE BOUNDS. The extremes of aβ + b over admitted fuels: 9.021 to 2175.679 and 1.335 to 198.554.
-unfoldable pub least : Side → Fraction
-least lower = 9021 over 1000
-least upper = 1335 over 1000
+-- THE BOUNDS. The extremes of aβ + b over admitted fuels in that unit: 9.021 to 2175.679 and 1.335 to 198.554.
+abbrev pub least : Side → ℕ
+least lower = 9021
+least upper = 2 * 1335
 
-unfoldable pub greatest : Side → Fraction
-greatest lower = 2175679 over 1000
-greatest upper = 198554 over 1000
+abbrev pub greatest : Side → ℕ
+greatest lower = 2175679
+greatest upper = 2 * 198554
 
 unfoldable pub sumWithin : Side → Blend → Bool
-sumWithin s b = atMost (least s ⊠ whole (b .total)) (held s b) && atMost (held s b) (greatest s ⊠ whole (b .total))
+sumWithin s b = leb (least s * b .total) (sumOf s b) && leb (sumOf s b) (greatest s * b .total)
 
 -- not out of bounds
 unfoldable pub within : Blend → Bool
@@ -55,14 +57,14 @@ within b = leb (b .total) 1000000 && (sumWithin lower b && sumWithin upper b)
 
 -- ADDING v parts of a fuel
 abbrev pub withFuel : Blend → ℕ → ℕ → Blend
-withFuel b v q = record { total = b .total + v; lower = b .lower + v * weight lower q; upper = b .upper + v * weight upper q }
+withFuel b q v = record { total = b .total + v; lower = b .lower + v * weight lower q; upper = b .upper + v * weight upper q }
 
--- of a fuel whose β, or refusal, is known
-unfoldable pub taking : Blend → ℕ → Outcome ℕ → Outcome Blend
-taking b v beta = andThen beta (λ q. refuse totalTooLarge 0 (ltb 1000000 (b .total + v)) (answered (withFuel b v q)))
+-- of a fuel that is admitted, or refused
+unfoldable pub taking : Blend → Outcome Atoms → ℕ → Outcome Blend
+taking b fuel v = andThen fuel (λ a. refuse totalTooLarge 0 (ltb 1000000 (b .total + v)) (answered (withFuel b (quarters a) v)))
 
 unfoldable pub adding : Blend → Fuel → ℕ → Outcome Blend
-adding b f v = refuse blendOutOfBounds 0 (not (within b)) (taking b v (fuelBeta f))
+adding b f v = refuse blendOutOfBounds 0 (not (within b)) (taking b (admitting f) v)
 
 -- JOINING the second into the first
 abbrev pub together : Blend → Blend → Blend
@@ -79,27 +81,38 @@ joining b c =
 abbrev pub shownBlend : Blend → Outcome Blend → Blended
 shownBlend b o = record { refusal = refusalOf o; blend = valueOf b o }
 
--- ASKING LIMITS, with a temperature and without one
-pub record Both : Type 0 where
+-- ASKING
+pub data Question : Type 0 where
+  -- both limits at a temperature in hundredths of a degree, or with none named
+  limits : Option ℤ → Question
+
+pub record LimitPair : Type 0 where
   pub lower : ℕ
   pub upper : ℕ
+
+-- what a question is answered with
+abbrev pub Told : Question → Type 0
+Told (limits t) = LimitPair
 
 -- V / Σ (v / limit) at t, where v / limit is v (aβ + b) / 100; in hundredths of a percent
 unfoldable pub blendLimit : Side → Blend → ℕ → ℕ
 blendLimit s b t = figure (whole 100 ⊠ ((whole (b .total) ⊘ (held s b ⊘ whole 100)) ⊠ correction s t))
 
-abbrev pub bothAt : Blend → ℕ → Both
-bothAt b t = record { lower = blendLimit lower b t; upper = blendLimit upper b t }
+abbrev pub limitsAt : Blend → ℕ → LimitPair
+limitsAt b t = record { lower = blendLimit lower b t; upper = blendLimit upper b t }
 
-unfoldable pub asking : Blend → Option ℤ → Outcome Both
-asking b t =
+-- of a blend that is not empty
+unfoldable pub telling : Blend → (q : Question) → Outcome (Told q)
+telling b (limits t) = refuse gasTemperatureOutside 0 (gasOutside (meant t)) (answered (limitsAt b (natAbs (meant t))))
+
+unfoldable pub asking : Blend → (q : Question) → Outcome (Told q)
+asking b q =
     refuse blendOutOfBounds 0 (not (within b))
     (refuse blendEmpty 0 (eqb (b .total) 0)
-    (refuse gasTemperatureOutside 0 (not (gasTemperature (meant t)))
-    (answered (bothAt b (natAbs (meant t))))))
+    (telling b q))
 
-abbrev pub noLimits : Both
+abbrev pub noLimits : LimitPair
 noLimits = record { lower = 0; upper = 0 }
 
-abbrev pub shownLimits : Outcome Both → Limits
+abbrev pub shownLimits : Outcome LimitPair → Limits
 shownLimits o = record { refusal = refusalOf o; lower = valueOf noLimits o .lower; upper = valueOf noLimits o .upper }

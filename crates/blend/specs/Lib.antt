@@ -1,7 +1,8 @@
+pub mod Limit
 pub mod Temperature
 pub mod Fuel
 pub mod Blend
 pub mod Calls
 pub mod Model
 pub mod Claims
-pub mod Held
+pub mod Internal

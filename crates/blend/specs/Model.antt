@@ -1,26 +1,25 @@
 -- The reference model, document 01's book: for each blend the list of entries that it took in, its page. It sees the calls alone.
-use mathlib.Core.Bool.{not}
 use mathlib.Core.List.{List, [], _∷_, _++_}
-use mathlib.Core.Option.{Option}
 use Prim.Native.Nat.{ℕ, _+_}
 use lib.Dec.{ltb, eqb}
-use lib.IntN.{ℤ, natAbs}
-use Rattle.refusal.specs.Numbers.{totalTooLarge, blendEmpty, gasTemperatureOutside}
-use Rattle.refusal.specs.Outcome.{Outcome, answered, refuse, valueOf, andThen}
+use lib.IntN.{natAbs}
+use Rattle.answer.specs.Numbers.{totalTooLarge, blendEmpty, gasTemperatureOutside}
+use Rattle.answer.specs.Outcome.{Outcome, answered, refuse, andThen}
 use Rattle.rounding.specs.Fraction.{Fraction, whole, _⊞_, _⊠_, _⊘_, figure}
-use Rattle.formula.specs.declared.Atoms.{Atoms}
-use Rattle.oxygen.specs.Beta.{beta}
-use Rattle.oxygen.specs.Limit.{Side, lower, upper, limitOf}
-use Rattle.formula.specs.Elements.{each}
-use Rattle.blend.specs.Temperature.{meant, gasTemperature, correction}
-use Rattle.blend.specs.Fuel.{Fuel, fuelAtoms, fuelBeta}
-use Rattle.blend.specs.Blend.{Both}
+use Rattle.elements.specs.declared.Atoms.{Atoms}
+use Rattle.blend.specs.Limit.{Side, lower, upper, limitOf}
+use Rattle.blend.specs.Temperature.{meant, gasOutside, correction}
+use Rattle.blend.specs.Fuel.{Fuel, admitting, quarters}
+use Rattle.blend.specs.Blend.{Question, limits, LimitPair, Told}
 use Rattle.blend.specs.Calls.{Keeper}
 
 -- an entry: a fuel, known by its atom counts, and its parts
 pub record Entry : Type 0 where
   pub fuel : Atoms
   pub parts : ℕ
+
+abbrev pub entry : Atoms → ℕ → Entry
+entry a v = record { fuel = a; parts = v }
 
 abbrev pub Entries : Type 0
 Entries = List Entry
@@ -34,7 +33,7 @@ total es = sum (λ (e : Entry). e .parts) es
 
 -- LE CHATELIER over the entries: V / Σ (v / limit), each fuel's limit unrounded, with its own branch
 unfoldable pub fuelLimit : Side → Atoms → Fraction
-fuelLimit s a = limitOf s (natAbs (beta a))
+fuelLimit s a = limitOf s (quarters a)
 
 unfoldable pub shares : Side → Entries → Fraction
 shares s [] = whole 0
@@ -50,27 +49,24 @@ limitAt s es t = leChatelier s es ⊠ correction s t
 unfoldable pub limitFigure : Side → Entries → ℕ → ℕ
 limitFigure s es t = figure (whole 100 ⊠ limitAt s es t)
 
-abbrev pub bothOf : Entries → ℕ → Both
-bothOf es t = record { lower = limitFigure lower es t; upper = limitFigure upper es t }
+abbrev pub limitsOf : Entries → ℕ → LimitPair
+limitsOf es t = record { lower = limitFigure lower es t; upper = limitFigure upper es t }
 
 -- THE MODEL
-abbrev pub entryOf : Fuel → ℕ → Entry
-entryOf f v = record { fuel = valueOf (each 0) (fuelAtoms f); parts = v }
-
 -- the first of refusals 1 to 4 that applies to the fuel; else 8 if the total and the parts together exceed 1,000,000; else the entry is written at the end
 unfoldable pub modelAdds : Entries → Fuel → ℕ → Outcome Entries
-modelAdds es f v = andThen (fuelBeta f) (λ _. refuse totalTooLarge 0 (ltb 1000000 (total es + v)) (answered (es ++ (entryOf f v ∷ []))))
+modelAdds es f v = andThen (admitting f) (λ a. refuse totalTooLarge 0 (ltb 1000000 (total es + v)) (answered (es ++ (entry a v ∷ []))))
 
 -- 8 if the two totals together exceed 1,000,000; else the second's entries are copied to the end of the first's
 unfoldable pub modelJoins : Entries → Entries → Outcome Entries
 modelJoins es fs = refuse totalTooLarge 0 (ltb 1000000 (total es + total fs)) (answered (es ++ fs))
 
--- 9 at total 0; else 10 if the temperature is not admitted; else both limits over the entries at t, rounded
-unfoldable pub modelAsks : Entries → Option ℤ → Outcome Both
-modelAsks es t =
-    refuse blendEmpty 0 (eqb (total es) 0)
-    (refuse gasTemperatureOutside 0 (not (gasTemperature (meant t)))
-    (answered (bothOf es (natAbs (meant t)))))
+-- 9 at total 0; else, asked for limits, 10 if the temperature is not admitted; else both limits over the entries at t, rounded
+unfoldable pub modelTells : Entries → (q : Question) → Outcome (Told q)
+modelTells es (limits t) = refuse gasTemperatureOutside 0 (gasOutside (meant t)) (answered (limitsOf es (natAbs (meant t))))
+
+unfoldable pub modelAsks : Entries → (q : Question) → Outcome (Told q)
+modelAsks es q = refuse blendEmpty 0 (eqb (total es) 0) (modelTells es q)
 
 abbrev pub model : Keeper Entries
 model = record { adds = modelAdds; joins = modelJoins; asks = modelAsks }

@@ -1,23 +1,22 @@
 -- Gas temperatures, and the correction of the limits for them (document 01, "At t °C the lower limit is multiplied by ..").
-use mathlib.Core.Bool.{Bool, _&&_}
-use mathlib.Core.Option.{Option, some, none}
+use mathlib.Core.Bool.{Bool}
+use mathlib.Core.Option.{Option, Option·getD}
 use Prim.Native.Nat.{ℕ, _+_, _*_, _-_}
 use lib.IntN.{ℤ, pos}
-use lib.Signed.{leZ}
+use Rattle.answer.specs.Outside.{outside}
 use Rattle.rounding.specs.Fraction.{Fraction, _over_}
-use Rattle.oxygen.specs.Limit.{Side, lower, upper}
+use Rattle.blend.specs.Limit.{Side, lower, upper}
 
 -- 25 °C, in hundredths: the temperature that is meant where none is named
 abbrev pub usualTemperature : ℤ
 usualTemperature = pos 2500
 
 abbrev pub meant : Option ℤ → ℤ
-meant (some t) = t
-meant none = usualTemperature
+meant t = Option·getD t usualTemperature
 
--- admitted from 0.00 to 200.00
-unfoldable pub gasTemperature : ℤ → Bool
-gasTemperature t = leZ (pos 0) t && leZ t (pos 20000)
+-- outside 0.00 to 200.00
+abbrev pub gasOutside : ℤ → Bool
+gasOutside t = outside (pos 0) (pos 20000) t
 
 -- (1277 − t) / 1252 and (t + 787) / 812, t in hundredths of a degree
 unfoldable pub correction : Side → ℕ → Fraction

@@ -1,23 +1,28 @@
 // Blends of fuels (document 01: pools): what Le Chatelier's rule needs of all that one took in.
 ghost use mathlib.Core.Path.{_≡_};
+ghost use mathlib.Core.Bool.{_&&_};
 ghost use mathlib.Core.List.{List};
 ghost use mathlib.Core.Option.{some, none};
 ghost use Prim.Native.Nat.{_*_, _≤_, _<_};
-ghost use Rattle.refusal.specs.Outcome.{refused, answered, refusal};
+ghost use lib.Dec.{leb};
+ghost use Rattle.answer.specs.Outcome.{refused, answered, refusal, unless};
 ghost use Rattle.rounding.specs.Round.{roundDiv};
-ghost use Rattle.oxygen.specs.Limit.{lower, upper};
-ghost use Rattle.blend.specs.Fuel.{counts, text as fuel-text};
-ghost use Rattle.blend.specs.Blend.{emptyBlend, weight, within, withFuel, together, adding, joining, asking, bothAt, shownBlend, shownLimits};
+ghost use Rattle.elements.specs.Elements.{weightedSum};
+ghost use Rattle.blend.specs.Limit.{lower, upper};
+ghost use Rattle.blend.specs.Fuel.{counts, text as fuel-text, admitting, masses};
+ghost use Rattle.blend.specs.Blend.{emptyBlend, weight, within, withFuel, together, taking, adding, joining, limits as asked-limits, asking, limitsAt, shownBlend, shownLimits};
 ghost use Rattle.blend.specs.Calls.{Call};
 ghost use Rattle.blend.specs.Claims.{Claims};
-ghost use Rattle.blend.specs.Held.{sumTest, Within, gasOr, Rated, TakenSays};
-use formula::Atoms;
+ghost use Rattle.blend.specs.Internal.{Within, Rated};
+use answer::Refusal;
+use answer::is_outside_signed;
+use elements::Atoms;
+use elements::weighted_sum;
+use formula::read_formula;
 use oxygen::Purpose;
 use oxygen::admit;
-use oxygen::admit_text;
-use refusal::Figure;
-use refusal::Refusal;
 use rounding::round_div;
+use rounding::size;
 
 // Total parts, and the sums of parts times aβ + b: lower in thousandths, upper in two-thousandths.
 #[repr(C)]
@@ -42,13 +47,26 @@ pub struct Limits {
     pub upper: u64,
 }
 
+// 25 °C: the temperature at which the limits' formulas were fitted.
+pub const FIT_TEMPERATURE: i64 = 2500;
+
 // 25 °C: the temperature that is meant where none is named.
 pub const USUAL_TEMPERATURE: i64 = 2500;
+
+// The molar masses of C H O N S P F Cl Br Si in halves of g/mol; no element is admitted that has none here.
+const MASSES: [u8; 10] = [24, 2, 32, 28, 0, 0, 0, 71, 0, 0];
+
+// The molar mass of a fuel in halves of g/mol. A count above 200 is taken as 200, and an element that is not admitted weighs nothing.
+pub fn molar_mass(fuel: Atoms) -> u64
+    ensures { λ r. ⌜ r ≡ weightedSum masses fuel ⌝ }
+{
+    weighted_sum(MASSES, fuel)
+}
 
 // Whether a sum of v parts lies between low and high for each.
 fn sum_within(low: u64, high: u64, v: u64, x: u64) -> bool
     requires { ⌜ (low ≤ 10000000) × (high ≤ 10000000) × (v ≤ 1000000) ⌝ }
-    ensures { λ r. ⌜ r ≡ sumTest low high v x ⌝ }
+    ensures { λ r. ⌜ r ≡ (leb (low * v) x && leb x (high * v)) ⌝ }
 {
     if x < low * v {
         return false;
@@ -89,9 +107,9 @@ fn weigh_upper(q: u64) -> u64
     }
 }
 
-fn with_fuel(b: Blend, parts: u64, q: u64) -> Blend
+fn with_fuel(b: Blend, q: u64, parts: u64) -> Blend
     requires { ⌜ Within b × (q ≤ 3800) × (parts ≤ 1000000) ⌝ }
-    ensures { λ r. ⌜ r ≡ withFuel b parts q ⌝ }
+    ensures { λ r. ⌜ r ≡ withFuel b q parts ⌝ }
 {
     Blend {
         total: b.total + parts,
@@ -132,19 +150,20 @@ fn unchanged(blend: Blend, number: u64, place: u64) -> Blended
     }
 }
 
-// The blend with parts of a fuel whose β, or refusal, is given.
-fn take(b: Blend, fuel: Figure, parts: u64) -> Blended
-    requires { ⌜ Within b × (fuel .value ≤ 3800) ⌝ }
-    ensures { λ r. ⌜ TakenSays b fuel parts r ⌝ }
+// The blend with parts of a fuel more, of a blend that is not out of bounds. Refusals 2, 3, 4, 8.
+fn take(b: Blend, fuel: Atoms, parts: u64) -> Blended
+    requires { ⌜ Within b ⌝ }
+    ensures { λ r. ⌜ r ≡ shownBlend b (taking b (admitting (counts fuel)) parts) ⌝ }
 {
-    let declined = fuel.refusal;
-    if 0 < declined.number {
-        return unchanged(b, declined.number, declined.place);
+    let beta = admit(Purpose::GasLimits, fuel);
+    let not_admitted = beta.refusal;
+    if 0 < not_admitted.number {
+        return unchanged(b, not_admitted.number, not_admitted.place);
     }
     if 1000000 - b.total < parts {
-        return unchanged(b, refusal::TOTAL_TOO_LARGE, 0);
+        return unchanged(b, answer::TOTAL_TOO_LARGE, 0);
     }
-    changed(with_fuel(b, parts, fuel.value))
+    changed(with_fuel(b, beta.value, parts))
 }
 
 // A refusal of limits.
@@ -158,17 +177,14 @@ pub fn no_limits(number: u64, place: u64) -> Limits
     }
 }
 
-// A gas temperature that is admitted; 20001 for any other.
-fn gas_temperature(t: i64) -> u64
-    ensures { λ r. ⌜ r ≡ gasOr t ⌝ }
+// Limits, unless something before them was declined.
+pub fn limits_unless(declined: Refusal, limits: Limits) -> Limits
+    ensures { λ r. ⌜ r ≡ unless declined (shownLimits (refused declined)) limits ⌝ }
 {
-    if t < 0 {
-        return 20001;
+    if 0 < declined.number {
+        return no_limits(declined.number, declined.place);
     }
-    if 20000 < t {
-        return 20001;
-    }
-    t as u64
+    limits
 }
 
 // scale · v · factor / (divisor · x), rounded.
@@ -182,7 +198,7 @@ fn rated(scale: u64, v: u64, factor: u64, divisor: u64, x: u64) -> u64
 // Both limits at an admitted temperature, of a blend that is not empty.
 fn limits_from(b: Blend, t: u64) -> Limits
     requires { ⌜ Within b × (0 < b .total) × (t ≤ 20000) ⌝ }
-    ensures { λ r. ⌜ r ≡ shownLimits (answered (bothAt b t)) ⌝ }
+    ensures { λ r. ⌜ r ≡ shownLimits (answered (limitsAt b t)) ⌝ }
 {
     Limits {
         refusal: Refusal {
@@ -211,9 +227,9 @@ pub fn add_fuel(b: Blend, fuel: Atoms, parts: u64) -> Blended
     ensures { λ r. ⌜ r ≡ shownBlend b (adding b (counts fuel) parts) ⌝ }
 {
     if !is_within(b) {
-        return unchanged(b, refusal::BLEND_OUT_OF_BOUNDS, 0);
+        return unchanged(b, answer::BLEND_OUT_OF_BOUNDS, 0);
     }
-    take(b, admit(Purpose::GasLimits, fuel), parts)
+    take(b, fuel, parts)
 }
 
 // The same of a fuel given by its formula text. Refusals 28, then the reader's 1 and 2, then 3, 4, 8.
@@ -221,9 +237,15 @@ pub fn add_fuel_text(b: Blend, text: &[u8], parts: u64) -> Blended
     ensures { λ r. ⌜ r ≡ shownBlend b (adding b (fuel-text (now (text .entry))) parts) ⌝ }
 {
     if !is_within(b) {
-        return unchanged(b, refusal::BLEND_OUT_OF_BOUNDS, 0);
+        return unchanged(b, answer::BLEND_OUT_OF_BOUNDS, 0);
     }
-    take(b, admit_text(Purpose::GasLimits, text), parts)
+    let read = read_formula(text);
+    let unread = read.refusal;
+    if 0 < unread.number {
+        return unchanged(b, unread.number, unread.place);
+    }
+    let fuel = read.atoms;
+    take(b, fuel, parts)
 }
 
 // The first blend with all of the second. Refusals 28 with place 0, or 1 if only the second is out of bounds; 8.
@@ -231,37 +253,38 @@ pub fn join_blends(b: Blend, other: Blend) -> Blended
     ensures { λ r. ⌜ r ≡ shownBlend b (joining b other) ⌝ }
 {
     if !is_within(b) {
-        return unchanged(b, refusal::BLEND_OUT_OF_BOUNDS, 0);
+        return unchanged(b, answer::BLEND_OUT_OF_BOUNDS, 0);
     }
     if !is_within(other) {
-        return unchanged(b, refusal::BLEND_OUT_OF_BOUNDS, 1);
+        return unchanged(b, answer::BLEND_OUT_OF_BOUNDS, 1);
     }
     if 1000000 - b.total < other.total {
-        return unchanged(b, refusal::TOTAL_TOO_LARGE, 0);
+        return unchanged(b, answer::TOTAL_TOO_LARGE, 0);
     }
     changed(with_blend(b, other))
 }
 
-// Both limits at a temperature in hundredths of a degree. Refusals 28, 9, 10.
+// Both limits at a temperature in hundredths of a degree, at most 100.00 %. Refusals 28, 9, 10.
 pub fn blend_limits_at(b: Blend, temperature: i64) -> Limits
-    ensures { λ r. ⌜ r ≡ shownLimits (asking b (some temperature)) ⌝ }
+    ensures { λ r. ⌜ r ≡ shownLimits (asking b (asked-limits (some temperature))) ⌝ }
+    ensures at_most { λ r. ⌜ (r .lower ≤ 10000) × (r .upper ≤ 10000) ⌝ }
 {
     if !is_within(b) {
-        return no_limits(refusal::BLEND_OUT_OF_BOUNDS, 0);
+        return no_limits(answer::BLEND_OUT_OF_BOUNDS, 0);
     }
     if b.total == 0 {
-        return no_limits(refusal::BLEND_EMPTY, 0);
+        return no_limits(answer::BLEND_EMPTY, 0);
     }
-    let t = gas_temperature(temperature);
-    if 20000 < t {
-        return no_limits(refusal::GAS_TEMPERATURE_OUTSIDE, 0);
+    if is_outside_signed(0, 20000, temperature) {
+        return no_limits(answer::GAS_TEMPERATURE_OUTSIDE, 0);
     }
-    limits_from(b, t)
+    limits_from(b, size(temperature))
 }
 
-// Both limits with no temperature named. Refusals 28, 9.
+// Both limits with no temperature named, at most 100.00 %. Refusals 28, 9.
 pub fn blend_limits(b: Blend) -> Limits
-    ensures { λ r. ⌜ r ≡ shownLimits (asking b none) ⌝ }
+    ensures { λ r. ⌜ r ≡ shownLimits (asking b (asked-limits none)) ⌝ }
+    ensures at_most { λ r. ⌜ (r .lower ≤ 10000) × (r .upper ≤ 10000) ⌝ }
 {
     blend_limits_at(b, USUAL_TEMPERATURE)
 }

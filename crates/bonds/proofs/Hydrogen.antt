@@ -5,23 +5,23 @@ use Prim.Native.Nat.{ℕ, _+_, _-_, _≤_}
 use native.Mathlib.Omega.{arith}
 use lib.Dec.{eqb}
 use borrow.Author.Tests.{eq-eqb, ne-eqb, eqb-true, eqb-false}
-use Rattle.formula.specs.declared.Element.the-variants.{Hydrogen}
-use Rattle.formula.specs.declared.Atoms.{Atoms}
-use Rattle.formula.specs.Elements.{count}
+use Rattle.elements.specs.declared.Element.the-variants.{Hydrogen}
+use Rattle.elements.specs.declared.Atoms.{Atoms}
+use Rattle.elements.specs.Elements.{count}
 use Rattle.bonds.specs.declared.Bonds.{Bonds}
-use Rattle.bonds.specs.Kinds.{bondsAt, hydrogenBonds, hydrogenDiffers}
+use Rattle.bonds.specs.Kinds.{bondsAt, hydrogenBonds, hydrogenUnbalanced}
 
 module _ (a : Atoms) (b : Bonds) where
-  pub hydrogen-unequal : (count a Hydrogen ≡ hydrogenBonds b → ⊥) → true ≡ hydrogenDiffers a b
-  unfolding hydrogenDiffers
+  pub hydrogen-unequal : (count a Hydrogen ≡ hydrogenBonds b → ⊥) → true ≡ hydrogenUnbalanced a b
+  unfolding hydrogenUnbalanced
   hydrogen-unequal h = rw (ne-eqb (count a Hydrogen) (hydrogenBonds b) h)
 
   -- atoms left for the last kind
   abbrev pub left : ℕ
   left = count a Hydrogen - bondsAt b 4 - bondsAt b 15 - bondsAt b 17 - bondsAt b 18
 
-  pub hydrogen-left : bondsAt b 4 + bondsAt b 15 + bondsAt b 17 + bondsAt b 18 ≤ count a Hydrogen → not (eqb left (bondsAt b 19)) ≡ hydrogenDiffers a b
-  unfolding hydrogenDiffers
+  pub hydrogen-left : bondsAt b 4 + bondsAt b 15 + bondsAt b 17 + bondsAt b 18 ≤ count a Hydrogen → not (eqb left (bondsAt b 19)) ≡ hydrogenUnbalanced a b
+  unfolding hydrogenUnbalanced
   hydrogen-left h = ap not (go (eqb left (bondsAt b 19)) refl)
     where
       go : (t : Bool) → eqb left (bondsAt b 19) ≡ t → t ≡ eqb (count a Hydrogen) (hydrogenBonds b)

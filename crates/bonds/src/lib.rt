@@ -1,8 +1,10 @@
 // Bond kinds and counts, and what the counts of atoms and bonds have to agree in.
 ghost use mathlib.Core.Path.{_≡_};
-ghost use Rattle.refusal.specs.Lowest.{orZero};
-ghost use Rattle.bonds.specs.Kinds.{aboveAt, hydrogenDiffers};
-use formula::Atoms;
+ghost use mathlib.Core.Option.{Option·getD};
+ghost use Rattle.bonds.specs.Kinds.{aboveAt, hydrogenUnbalanced};
+use elements::Atoms;
+use elements::each;
+use elements::first_above;
 
 // Bond counts, indexed by kind less one.
 #[repr(C)]
@@ -12,17 +14,16 @@ pub struct Bonds {
 
 // The lowest place with a count above 200, 0 where there is none: elements 1 to 10, then bond kinds as 11 to 32.
 pub fn first_above_200(atoms: Atoms, bonds: Bonds) -> u64
-    ensures { λ r. ⌜ r ≡ orZero (aboveAt atoms bonds) ⌝ }
+    ensures { λ r. ⌜ r ≡ Option·getD (aboveAt atoms bonds) 0 ⌝ }
 {
-    let mut i: usize = 0;
-    while i < 32 {
-        let n = if i < 10 {
-            atoms.count[i]
-        } else {
-            bonds.count[i - 10]
-        };
-        if 200 < n {
-            return i as u64 + 1;
+    let element = first_above(each(200), atoms);
+    if 0 < element {
+        return element;
+    }
+    let mut i = 0;
+    while i < 22 {
+        if 200 < bonds.count[i] {
+            return i as u64 + 11;
         }
         i += 1;
     }
@@ -30,8 +31,8 @@ pub fn first_above_200(atoms: Atoms, bonds: Bonds) -> u64
 }
 
 // Whether the H atoms differ from the H bonds, of kinds 4, 15, 17, 18 and 19. (Their sum might not fit, so each is taken away.)
-pub fn hydrogen_differs(atoms: Atoms, bonds: Bonds) -> bool
-    ensures { λ r. ⌜ r ≡ hydrogenDiffers atoms bonds ⌝ }
+pub fn hydrogen_is_unbalanced(atoms: Atoms, bonds: Bonds) -> bool
+    ensures { λ r. ⌜ r ≡ hydrogenUnbalanced atoms bonds ⌝ }
 {
     let h = atoms.count[1];
     let a = bonds.count[3];

@@ -1,92 +1,35 @@
--- Both questions as a condition in whole numbers, and what they are answered.
-use mathlib.Core.Path.{_≡_, sym, _∙_}
-use mathlib.Core.Bool.{true, false}
-use mathlib.Core.Option.{some}
-use Prim.Native.Nat.{ℕ, _+_, _*_, _≤_, _<_}
-use native.Mathlib.Decide.{decLt}
-use native.Mathlib.Omega.{arith}
-use borrow.Author.Tests.{le-leb, lt-leb}
+-- Conditions: that a hotter and higher point meets what a colder and lower one does, and what a condition is within its bounds.
+use mathlib.Core.Path.{_≡_}
+use mathlib.Core.Bool.{Bool, true, false, cond}
+use Prim.Native.Nat.{ℕ, _≤_}
+use native.Mathlib.Nat.{le-trans, le-refl, mul-le-mul, mul-le-mul-left, add-le-add}
+use borrow.Author.Tests.{le-leb, leb-true}
 use lib.Dec.{leb}
-use lib.IntN.{pos}
-use Rattle.refusal.specs.declared.Figure.{Figure}
-use Rattle.refusal.specs.Numbers.{unknownMethod, diffusionOutside}
-use Rattle.refusal.specs.Outcome.{refused, refusal, shownFigure}
-use Rattle.refusal.specs.Within.{notWithin}
-use Rattle.refusal.proofs.Outcomes.{figure-refused, figure-answered}
-use Rattle.rounding.specs.Fraction.{_over_, whole, _⊠_, atMost}
-use Rattle.formula.specs.declared.Atoms.{Atoms}
-use Rattle.oxygen.specs.Admission.{admission}
-use Rattle.oxygen.specs.Limit.{fitTemperature}
-use Rattle.oxygen.proofs.Admissions.{admission-numbered}
-use Rattle.blend.specs.declared.Limits.{Limits}
-use Rattle.blend.specs.Blend.{shownLimits}
-use Rattle.blend.specs.Fuel.{counts}
-use Rattle.limits.specs.FuelLimits.{fuelLimits}
-use Rattle.limits.proofs.Concentrations.{limits-refused, limits-answered, rate-facts}
+use Rattle.answer.proofs.Tests.{both}
 use Rattle.curve.specs.declared.Condition.{Condition}
-use Rattle.curve.specs.Curve.{Curve, onCurve}
-use Rattle.curve.specs.Held.{holds}
-use Rattle.curve.specs.Questions.{reaches, lowerTemperatureLimit, threshold, ignites, purposeOf, flashByCurve}
-use Rattle.curve.proofs.Checks.{onCurve-alike}
+use Rattle.curve.specs.Smallest.{Test}
+use Rattle.curve.specs.Condition.{holds, bounded, testOf, metWithin}
+use Rattle.curve.proofs.Answers.{Grows}
 
-leb-same : (a b c d : ℕ) → (a ≤ b → c ≤ d) → (c ≤ d → a ≤ b) → leb a b ≡ leb c d
-leb-same a b c d h g = go (decLt b a)
-  where
-    go : Dec (b < a) → leb a b ≡ leb c d
-    go (yes l) = lt-leb a b l ∙ sym (lt-leb c d (back (decLt d c)))
-      where
-        back : Dec (d < c) → d < c
-        back (yes m) = m
-        back (no m) = absurd (let k = g (omega arith) in omega arith)
-    go (no l) = le-leb a b (omega arith) ∙ sym (le-leb c d (h (omega arith)))
+module _ (c : Condition) where
+  pub grows : Grows (testOf c)
+  unfolding testOf holds
+  grows = go (bounded c)
+    where
+      go : (b : Bool) → Grows (cond b (holds c) (λ t p. false))
+      go true t u p q h l e = le-leb _ _ (le-trans (leb-true _ _ e) (mul-le-mul (add-le-add (mul-le-mul-left (c .slope) h) (le-refl (c .base))) l))
+      go false t u p q h l e = e
 
-abbrev pub byPressure : ℕ → Condition
-byPressure limit = record { slope = 0; base = 100; level = 1013 * limit }
+  pub within-bounds : bounded c ≡ true → (c .slope ≤ 76000000) × (c .base ≤ 100)
+  unfolding bounded
+  within-bounds e = let h = both (leb (c .slope) 76000000) (leb (c .base) 100) e in (leb-true _ _ (h .0), leb-true _ _ (h .1))
 
-pub reaches-is : (limit t p : ℕ) → holds (byPressure limit) t p ≡ reaches limit t p
-unfolding holds reaches atMost _over_ whole _⊠_
-reaches-is limit t p = leb-same (1013 * limit) ((0 * t + 100) * p) (limit * 1 * 101300 * 1) (p * (100 * 100 * 1)) (λ h. omega arith) (λ h. omega arith)
+  -- up to 600.00 °C and 250,000 Pa
+  pub met-within : (t p : ℕ) → t ≤ 87300 → p ≤ 250000 → metWithin c t p ≡ testOf c t p
+  unfolding metWithin
+  met-within t p h l = rw (le-leb _ _ h, le-leb _ _ l)
 
-abbrev pub byProduct : ℕ → ℕ → ℕ → Condition
-byProduct n diffusion q = record { slope = diffusion * q; base = 0; level = n * 4000000000 }
-
-pub ignites-is : (m diffusion q t p : ℕ) → holds (byProduct (threshold m) diffusion q) t p ≡ ignites m diffusion q t p
-unfolding holds ignites atMost _over_ whole _⊠_
-ignites-is m diffusion q t p =
-    leb-same (threshold m * 4000000000) ((diffusion * q * t + 0) * p) (threshold m * (100 * 1000 * 10000 * 4)) (t * p * diffusion * q * 1) (λ h. omega arith) (λ h. omega arith)
-
--- the lower temperature limit, where the limits were answered as `given`
-module _ (a : Atoms) (k : Curve) (given : Limits) (e : given ≡ shownLimits (fuelLimits (counts a) (some (pos fitTemperature)))) where
-  pub lower-refused : 0 < given .refusal .number → lowerTemperatureLimit a k ≡ refused (given .refusal)
-  unfolding lowerTemperatureLimit
-  lower-refused l = rw (limits-refused a (pos fitTemperature) given e l)
-
-  pub lower-most : given .refusal .number ≤ 0 → given .lower ≤ 5000000000
-  lower-most l = rate-facts a (pos fitTemperature) given e l .low
-
-  pub lower-answered : given .refusal .number ≤ 0 → onCurve (holds (byPressure (given .lower))) k ≡ lowerTemperatureLimit a k
-  unfolding lowerTemperatureLimit
-  lower-answered l = rw (limits-answered a (pos fitTemperature) given e l) (onCurve-alike _ _ k (reaches-is (given .lower)))
-
--- formula (35)
-module _ (m : ℕ) (a : Atoms) (diffusion : ℕ) (k : Curve) where
-  pub unknown-method : notWithin 3 m ≡ true → flashByCurve m a diffusion k ≡ refused (refusal unknownMethod 0)
-  unfolding flashByCurve
-  unknown-method o = rw o
-
-  -- where β was answered as `given`
-  module _ (known : notWithin 3 m ≡ false) (given : Figure) (e : given ≡ shownFigure (admission (purposeOf m) a)) where
-    pub oxygen-refused : 0 < given .refusal .number → flashByCurve m a diffusion k ≡ refused (given .refusal)
-    unfolding flashByCurve
-    oxygen-refused l = rw (known, figure-refused (admission (purposeOf m) a) given e l)
-
-    module _ (l : given .refusal .number ≤ 0) where
-      pub diffusion-outside : notWithin 20000 diffusion ≡ true → flashByCurve m a diffusion k ≡ refused (refusal diffusionOutside 0)
-      unfolding flashByCurve
-      diffusion-outside o = rw (known, figure-answered (admission (purposeOf m) a) given e (admission-numbered (purposeOf m) a) l, o)
-
-      pub flash-answered : notWithin 20000 diffusion ≡ false → onCurve (holds (byProduct (threshold m) diffusion (given .value))) k ≡ flashByCurve m a diffusion k
-      unfolding flashByCurve
-      flash-answered o =
-          rw (known, figure-answered (admission (purposeOf m) a) given e (admission-numbered (purposeOf m) a) l, o)
-          (onCurve-alike _ _ k (ignites-is m diffusion (given .value)))
+  -- a small enough condition is the test that it agrees with
+  pub test-is : (test : Test) → c .slope ≤ 76000000 → c .base ≤ 100 → ((t p : ℕ) → holds c t p ≡ test t p) → testOf c ≡ test
+  unfolding testOf bounded
+  test-is test h l same = rw (le-leb _ _ h, le-leb _ _ l) (λ i. λ t p. same t p i)

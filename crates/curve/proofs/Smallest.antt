@@ -1,13 +1,13 @@
--- Laws of the smallest number from a to b that passes a test: what it is, that nothing else is that, and how a step tells it.
-use mathlib.Core.Path.{_≡_, ap, _∙_}
+-- Laws of the smallest number from a to b that passes a test: what it is, that nothing else is that, and how a search by halving finds it.
+use mathlib.Core.Path.{_≡_, sym, ap, _∙_}
 use mathlib.Core.Bool.{Bool, true, false}
 use mathlib.Core.Option.{Option, some, none, Option·getD}
-use Prim.Native.Nat.{ℕ, _-_, _≤_, _<_}
+use Prim.Native.Nat.{ℕ, _+_, _-_, _≤_, _<_}
 use native.Mathlib.Decide.{decLt}
 use native.Mathlib.Omega.{arith}
-use Rattle.refusal.specs.Lowest.{lowest, IsLowest}
-use Rattle.refusal.proofs.Lowest.{is-lowest, only-lowest}
-use Rattle.refusal.proofs.Tests.{never, fails-by}
+use Rattle.answer.specs.Lowest.{lowest, IsLowest}
+use Rattle.answer.proofs.Lowest.{is-lowest, only-lowest}
+use Rattle.answer.proofs.Tests.{never, fails-by}
 use Rattle.curve.specs.Smallest.{smallest, Least}
 
 -- r lies in the range, every number before it fails, and it passes unless it is the range's end
@@ -16,10 +16,6 @@ pub record IsSmallest (f : ℕ → Bool) (a b r : ℕ) : Type 0 where
   pub to : r ≤ b
   pub before : (j : ℕ) → a ≤ j → j < r → f j ≡ false
   pub here : r < b → f r ≡ true
-
--- a test that keeps passing, from a to b, once it passes
-abbrev pub Keeps : (ℕ → Bool) → ℕ → ℕ → Type 0
-Keeps f a b = (t u : ℕ) → a ≤ t → t ≤ u → u ≤ b → f t ≡ true → f u ≡ true
 
 module _ (f : ℕ → Bool) (a b : ℕ) (l : a ≤ b) where
   pub is-smallest : IsSmallest f a b (smallest f a b)
@@ -55,8 +51,32 @@ module _ (f : ℕ → Bool) (a b : ℕ) (l : a ≤ b) where
       go : (r : ℕ) → IsSmallest f a b r → Least f a b r
       go r h = let e = here r h (decLt r b) in record { above = start r (h .from) e (decLt a r); covered = h .to; passes = e; fails = h .before }
 
--- of a test that keeps passing, it is the one that passes where the one before fails
-pub smallest-step : (f : ℕ → Bool) (a b r : ℕ) → Keeps f a b → a < r → r ≤ b → f (r - 1) ≡ false → f r ≡ true → smallest f a b ≡ r
-smallest-step f a b r on l h e p =
-    only-smallest f a b (omega arith) r
-    (record { from = omega arith; to = h; before = λ j q s. fails-by _ _ (on j (r - 1) q (omega arith) (omega arith)) e; here = λ _. p })
+-- HALVING. A test that keeps passing, from a to b, once it passes
+abbrev pub Keeps : (ℕ → Bool) → ℕ → ℕ → Type 0
+Keeps f a b = (t u : ℕ) → a ≤ t → t ≤ u → u ≤ b → f t ≡ true → f u ≡ true
+
+-- what a search keeps: the test passes at the upper end and fails at the lower one, unless that lies before a
+pub record Bracket (f : ℕ → Bool) (a b low high : ℕ) : Type 0 where
+  pub from : a ≤ low + 1
+  pub apart : low < high
+  pub to : high ≤ b
+  pub fails : a ≤ low → f low ≡ false
+  pub passes : f high ≡ true
+
+module _ (f : ℕ → Bool) (a b low high : ℕ) (k : Bracket f a b low high) where
+  -- a number between the ends takes the place of one of them
+  pub lowered : (mid : ℕ) → low < mid → mid < high → f mid ≡ true → Bracket f a b low mid
+  lowered mid l h e = record { from = k .from; apart = l; to = omega (arith, k .to); fails = k .fails; passes = e }
+
+  pub raised : (mid : ℕ) → low < mid → mid < high → f mid ≡ false → Bracket f a b mid high
+  raised mid l h e = record { from = omega (arith, k .from); apart = h; to = k .to; fails = λ _. e; passes = k .passes }
+
+  -- where nothing is left between them, the upper one is the smallest
+  pub bracketed : Keeps f a b → high - low ≤ 1 → high ≡ smallest f a b
+  bracketed on near =
+      sym (only-smallest f a b (omega (arith, k .from, k .apart, k .to)) high (record {
+        from = omega (arith, k .from, k .apart);
+        to = k .to;
+        before = λ j p q. fails-by (f j) (f low) (on j low p (omega arith) (omega (arith, k .apart, k .to))) (k .fails (omega arith));
+        here = λ _. k .passes;
+      }))

@@ -1,12 +1,13 @@
 -- The smallest hundredth of a degree at which a test passes, of any pressure: by trying each from the first temperature on.
 use mathlib.Core.Path.{_≡_}
-use mathlib.Core.Bool.{Bool, true, false, not}
+use mathlib.Core.Bool.{Bool, true, false, not, cond}
 use mathlib.Core.Option.{Option·getD}
 use Prim.Native.Nat.{ℕ, suc, _+_, _-_, _≤_, _<_}
+use lib.Dec.{leb}
 use lib.IntN.{ℤ, pos, negsuc, subℕ}
-use Rattle.refusal.specs.Numbers.{trueAtFirst, falseAtLast}
-use Rattle.refusal.specs.Lowest.{lowest}
-use Rattle.refusal.specs.Outcome.{Outcome, answered, refuse}
+use Rattle.answer.specs.Numbers.{trueAtFirst, falseAtLast}
+use Rattle.answer.specs.Lowest.{lowest}
+use Rattle.answer.specs.Outcome.{Outcome, answered, refuse}
 
 -- TEMPERATURES. Hundredths of °C as hundredths above −273 °C, the t + 273 of formula (35); 0 below that; and back.
 abbrev pub kelvin : ℤ → ℕ
@@ -15,6 +16,10 @@ kelvin (negsuc n) = 27300 - suc n
 
 abbrev pub celsius : ℕ → ℤ
 celsius t = subℕ t 27300
+
+-- n brought to low to high
+unfoldable pub clamp : ℕ → ℕ → ℕ → ℕ
+clamp low high n = cond (leb n low) low (cond (leb high n) high n)
 
 -- a test of a temperature, counted so, and a pressure in Pa
 abbrev pub Test : Type 0

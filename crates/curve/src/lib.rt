@@ -1,24 +1,24 @@
-// The vapour curve: the smallest hundredth of a degree at which a condition holds, the lower temperature limit, and formula (35).
+// The vapour curve: which curves are accepted, the pressure at a temperature, and the smallest hundredth of a degree at which a condition holds.
 // A curve is two lists, temperatures in hundredths of °C and pressures in Pa. Inside, a temperature is counted from −273 °C.
 ghost use mathlib.Core.Path.{_≡_};
 ghost use mathlib.Core.Bool.{true, false};
 ghost use Prim.Native.Nat.{_≤_, _<_};
 ghost use lib.IntN.{pos};
 ghost use lib.ListN.{length, getD};
-ghost use Rattle.refusal.specs.Outcome.{shownTemperature};
-ghost use Rattle.curve.specs.Smallest.{kelvin as kelvinOf, celsius as celsiusOf, smallest, met};
-ghost use Rattle.curve.specs.Curve.{curve, sizes, between, segment, Accepted, onCurve, Sound};
-ghost use Rattle.curve.specs.Held.{holds, Bounded, Sloped, above, indexOf, FoundOn};
-ghost use Rattle.curve.specs.Questions.{lowerTemperatureLimit, flashByCurve, threshold, purposeOf};
-use formula::Atoms;
-use limits::fuel_limits_at;
-use oxygen::FIT_TEMPERATURE;
-use oxygen::Purpose;
-use oxygen::admit;
-use refusal::Refusal;
-use refusal::Temperature;
-use refusal::is_not_within;
-use refusal::refused_temperature;
+ghost use Rattle.answer.specs.Outcome.{answered, refusalOf, shownFigure, shownTemperature};
+ghost use Rattle.curve.specs.Smallest.{kelvin as kelvinOf, celsius, clamp as clampOf, smallest, met};
+ghost use Rattle.curve.specs.Curve.{curve, last, sizes, rising, badPoint, accepting, Accepted, between, segment, segmentOf, pressureAsked, onCurve, Sound};
+ghost use Rattle.curve.specs.Condition.{bounded, testOf, metWithin};
+ghost use Rattle.curve.specs.Internal.{indexOf, Sloped, FoundOn};
+use answer::Figure;
+use answer::Refusal;
+use answer::Temperature;
+use answer::answered_figure;
+use answer::answered_temperature;
+use answer::is_outside;
+use answer::is_outside_signed;
+use answer::refused_figure;
+use answer::refused_temperature;
 use rounding::divide;
 use rounding::size;
 
@@ -44,7 +44,7 @@ struct Found {
 }
 
 // A temperature in hundredths of °C, counted from −273 °C; 0 below.
-fn kelvin(t: i64) -> u64
+pub fn kelvin(t: i64) -> u64
     ensures { λ r. ⌜ r ≡ kelvinOf t ⌝ }
 {
     let far = size(t);
@@ -57,12 +57,24 @@ fn kelvin(t: i64) -> u64
     0
 }
 
-// And back.
-fn celsius(k: u64) -> i64
-    requires { ⌜ k ≤ 87300 ⌝ }
-    ensures { λ r. ⌜ r ≡ celsiusOf k ⌝ }
+// A number brought to low to high.
+fn clamp(low: u64, high: u64, n: u64) -> u64
+    ensures { λ r. ⌜ r ≡ clampOf low high n ⌝ }
 {
-    k as i64 - 27300
+    if n <= low {
+        return low;
+    }
+    if high <= n {
+        return high;
+    }
+    n
+}
+
+// The way back: the answer t, counted from −273 °C; 600.00 for a later one.
+pub fn answer_at(t: u64) -> Temperature
+    ensures { λ r. ⌜ r ≡ shownTemperature (answered (celsius (clampOf 0 87300 t))) ⌝ }
+{
+    answered_temperature(clamp(0, 87300, t) as i64 - 27300)
 }
 
 // The temperature of point i.
@@ -73,41 +85,95 @@ fn temperature_at(temperatures: &[i64], i: usize) -> u64
     kelvin(temperatures[i])
 }
 
-// Whether a point is in range and above the one before, t0 and p0; 72.99 and 0 stand before the first.
-fn is_above(t0: u64, p0: u64, t: u64, p: u64) -> bool
-    ensures { λ r. ⌜ r ≡ above t0 p0 t p ⌝ }
+// The segment that ends at point i.
+fn segment_at(temperatures: &[i64], pressures: &[u64], i: usize) -> Segment
+    requires { ⌜ (1 ≤ i) × (i < length (now temperatures)) × (i < length (now pressures)) ⌝ }
+    ensures { λ r. ⌜ r ≡ segment (curve (now (temperatures .entry)) (now (pressures .entry))) i ⌝ }
 {
-    if t <= t0 {
+    Segment {
+        from: temperature_at(temperatures, i - 1),
+        to: temperature_at(temperatures, i),
+        low: pressures[i - 1],
+        high: pressures[i],
+    }
+}
+
+// Whether the lists are of equal length, 2 to 4,096 points.
+fn is_sized(n: usize, m: usize) -> bool
+    ensures { λ r. ⌜ r ≡ sizes n m ⌝ }
+{
+    if n != m {
         return false;
     }
-    if 87300 < t {
+    if n < 2 {
         return false;
     }
-    if p <= p0 {
+    n <= 4096
+}
+
+// Whether the point that ends a segment is above the one that starts it.
+fn is_rising(s: Segment) -> bool
+    ensures { λ r. ⌜ r ≡ rising s ⌝ }
+{
+    if s.to <= s.from {
         return false;
     }
-    p <= 250000
+    s.low < s.high
+}
+
+// Whether point i is bad.
+fn is_bad_point(temperatures: &[i64], pressures: &[u64], i: usize) -> bool
+    requires { ⌜ (i < length (now temperatures)) × (i < length (now pressures)) ⌝ }
+    ensures { λ r. ⌜ r ≡ badPoint (curve (now (temperatures .entry)) (now (pressures .entry))) i ⌝ }
+{
+    if is_outside_signed(-20000, 60000, temperatures[i]) {
+        return true;
+    }
+    if is_outside(1, 250000, pressures[i]) {
+        return true;
+    }
+    if i == 0 {
+        return false;
+    }
+    !is_rising(segment_at(temperatures, pressures, i))
 }
 
 // The first bad point, or the number of points.
-fn first_bad(temperatures: &[i64], pressures: &[u64]) -> usize
+fn first_bad_point(temperatures: &[i64], pressures: &[u64]) -> usize
     requires { ⌜ length (now temperatures) ≡ length (now pressures) ⌝ }
     ensures { λ r. ⌜ r ≡ indexOf (curve (now (temperatures .entry)) (now (pressures .entry))) ⌝ }
 {
-    let mut t0: u64 = 7299;
-    let mut p0: u64 = 0;
     let mut i: usize = 0;
     while i < temperatures.len() {
-        let t = temperature_at(temperatures, i);
-        let p = pressures[i];
-        if !is_above(t0, p0, t, p) {
+        if is_bad_point(temperatures, pressures, i) {
             return i;
         }
-        t0 = t;
-        p0 = p;
         i += 1;
     }
     i
+}
+
+// Whether a curve is accepted: refusal 11, or number 0.
+pub fn check_curve(temperatures: &[i64], pressures: &[u64]) -> Refusal
+    ensures { λ r. ⌜ r ≡ refusalOf (accepting (curve (now (temperatures .entry)) (now (pressures .entry)))) ⌝ }
+{
+    if !is_sized(temperatures.len(), pressures.len()) {
+        return Refusal {
+            number: answer::BAD_CURVE,
+            place: 0,
+        };
+    }
+    let bad = first_bad_point(temperatures, pressures);
+    if bad < temperatures.len() {
+        return Refusal {
+            number: answer::BAD_CURVE,
+            place: bad as u64,
+        };
+    }
+    Refusal {
+        number: 0,
+        place: 0,
+    }
 }
 
 // The pressure at t on a segment, rounded down.
@@ -119,17 +185,68 @@ fn pressure_on(s: Segment, t: u64) -> u64
     s.low + rise.quotient
 }
 
-fn is_met(c: Condition, t: u64, p: u64) -> bool
-    requires { ⌜ (Bounded c) × (t ≤ 87300) × (p ≤ 250000) ⌝ }
-    ensures { λ r. ⌜ r ≡ holds c t p ⌝ }
+// The segment of an accepted curve that has t: by halving, between a point below t, or the first, and one that is not below t.
+fn segment_of(temperatures: &[i64], pressures: &[u64], t: u64) -> Segment
+    requires { ⌜ (Accepted (curve (now temperatures) (now pressures))) × (t ≤ last (curve (now temperatures) (now pressures))) ⌝ }
+    ensures { λ r. ⌜ r ≡ segment (curve (now (temperatures .entry)) (now (pressures .entry))) (segmentOf (curve (now (temperatures .entry)) (now (pressures .entry))) t) ⌝ }
 {
+    let mut low: usize = 0;
+    let mut high = temperatures.len() - 1;
+    while 1 < high - low {
+        let mid = low + (high - low) / 2;
+        if t <= temperature_at(temperatures, mid) {
+            high = mid;
+        } else {
+            low = mid;
+        }
+    }
+    segment_at(temperatures, pressures, high)
+}
+
+// The pressure at a temperature; below the curve's first temperature that of the first point, above its last that of the last. Refusal 11.
+pub fn pressure_at(temperatures: &[i64], pressures: &[u64], temperature: i64) -> Figure
+    ensures { λ r. ⌜ r ≡ shownFigure (pressureAsked temperature (curve (now (temperatures .entry)) (now (pressures .entry)))) ⌝ }
+{
+    let bad = check_curve(temperatures, pressures);
+    if 0 < bad.number {
+        return refused_figure(bad.number, bad.place);
+    }
+    let first = temperature_at(temperatures, 0);
+    let last = temperature_at(temperatures, temperatures.len() - 1);
+    let t = clamp(first, last, kelvin(temperature));
+    answered_figure(pressure_on(segment_of(temperatures, pressures, t), t))
+}
+
+// Whether no product of the condition exceeds 64 bits.
+fn is_bounded(c: Condition) -> bool
+    ensures { λ r. ⌜ r ≡ bounded c ⌝ }
+{
+    if 76000000 < c.slope {
+        return false;
+    }
+    c.base <= 100
+}
+
+// Whether the condition holds at t and p; not out of its bounds, beyond 600.00 °C or 250,000 Pa.
+pub fn is_met(c: Condition, t: u64, p: u64) -> bool
+    ensures { λ r. ⌜ r ≡ metWithin c t p ⌝ }
+{
+    if 87300 < t {
+        return false;
+    }
+    if 250000 < p {
+        return false;
+    }
+    if !is_bounded(c) {
+        return false;
+    }
     c.level <= (c.slope * t + c.base) * p
 }
 
 // The smallest hundredth of a segment at which the condition holds; it fails at the segment's start and holds at its end.
 fn hundredth(c: Condition, s: Segment) -> u64
-    requires { ⌜ (Bounded c) × (Sloped s) × (met (holds c) (between s) (s .from) ≡ false) × (met (holds c) (between s) (s .to) ≡ true) ⌝ }
-    ensures { λ r. ⌜ r ≡ smallest (met (holds c) (between s)) (s .from) (s .to) ⌝ }
+    requires { ⌜ (Sloped s) × (met (testOf c) (between s) (s .from) ≡ false) × (met (testOf c) (between s) (s .to) ≡ true) ⌝ }
+    ensures { λ r. ⌜ r ≡ smallest (met (testOf c) (between s)) (s .from) (s .to) ⌝ }
 {
     let mut low = s.from;
     let mut high = s.to;
@@ -147,22 +264,9 @@ fn hundredth(c: Condition, s: Segment) -> u64
     found
 }
 
-// The segment that ends at point i.
-fn segment_at(temperatures: &[i64], pressures: &[u64], i: usize) -> Segment
-    requires { ⌜ (1 ≤ i) × (i < length (now temperatures)) × (i < length (now pressures)) ⌝ }
-    ensures { λ r. ⌜ r ≡ segment (curve (now (temperatures .entry)) (now (pressures .entry))) i ⌝ }
-{
-    Segment {
-        from: temperature_at(temperatures, i - 1),
-        to: temperature_at(temperatures, i),
-        low: pressures[i - 1],
-        high: pressures[i],
-    }
-}
-
 // The search over an accepted curve: over its segments, then over the hundredths of the first that ends where the condition holds.
 fn search(temperatures: &[i64], pressures: &[u64], c: Condition) -> Found
-    requires { ⌜ (Bounded c) × Accepted (curve (now temperatures) (now pressures)) ⌝ }
+    requires { ⌜ Accepted (curve (now temperatures) (now pressures)) ⌝ }
     ensures { λ r. ⌜ FoundOn c (curve (now (temperatures .entry)) (now (pressures .entry))) r ⌝ }
 {
     let mut i: usize = 0;
@@ -170,26 +274,20 @@ fn search(temperatures: &[i64], pressures: &[u64], c: Condition) -> Found
         if temperatures.len() <= i {
             break Found {
                 segment: 0,
-                temperature: refused_temperature(refusal::FALSE_AT_LAST, 0),
+                temperature: refused_temperature(answer::FALSE_AT_LAST, 0),
             };
         }
         if is_met(c, temperature_at(temperatures, i), pressures[i]) {
             if i == 0 {
                 break Found {
                     segment: 0,
-                    temperature: refused_temperature(refusal::TRUE_AT_FIRST, 0),
+                    temperature: refused_temperature(answer::TRUE_AT_FIRST, 0),
                 };
             }
             let t = hundredth(c, segment_at(temperatures, pressures, i));
             break Found {
                 segment: i,
-                temperature: Temperature {
-                    refusal: Refusal {
-                        number: 0,
-                        place: 0,
-                    },
-                    value: celsius(t),
-                },
+                temperature: answer_at(t),
             };
         }
         i += 1;
@@ -197,100 +295,14 @@ fn search(temperatures: &[i64], pressures: &[u64], c: Condition) -> Found
     found
 }
 
-// Whether the lists are of equal length, 2 to 4,096 points.
-fn is_sized(n: usize, m: usize) -> bool
-    ensures { λ r. ⌜ r ≡ sizes n m ⌝ }
+// The smallest hundredth of a degree at which the condition holds along a curve. Refusals 11, 12, 13.
+pub fn smallest_hundredth(c: Condition, temperatures: &[i64], pressures: &[u64]) -> Temperature
+    ensures { λ r. ⌜ r ≡ shownTemperature (onCurve (testOf c) (curve (now (temperatures .entry)) (now (pressures .entry)))) ⌝ }
+    ensures sound { λ _. ⌜ Sound (curve (now (temperatures .entry)) (now (pressures .entry))) ⌝ }
 {
-    if n != m {
-        return false;
-    }
-    if n < 2 {
-        return false;
-    }
-    n <= 4096
-}
-
-// The smallest hundredth of a degree at which the condition holds, of any two lists. Refusals 11, 12, 13.
-fn on_curve(temperatures: &[i64], pressures: &[u64], c: Condition) -> Temperature
-    requires { ⌜ Bounded c ⌝ }
-    ensures { λ r. ⌜ r ≡ shownTemperature (onCurve (holds c) (curve (now (temperatures .entry)) (now (pressures .entry)))) ⌝ }
-{
-    if !is_sized(temperatures.len(), pressures.len()) {
-        return refused_temperature(refusal::BAD_CURVE, 0);
-    }
-    let bad = first_bad(temperatures, pressures);
-    if bad < temperatures.len() {
-        return refused_temperature(refusal::BAD_CURVE, bad as u64);
+    let bad = check_curve(temperatures, pressures);
+    if 0 < bad.number {
+        return refused_temperature(bad.number, bad.place);
     }
     search(temperatures, pressures, c).temperature
-}
-
-// The lower temperature limit of a fuel. Refusals 2, 3, 4 as for limits, then 11, 12, 13.
-pub fn lower_temperature_limit(fuel: Atoms, temperatures: &[i64], pressures: &[u64]) -> Temperature
-    ensures { λ r. ⌜ r ≡ shownTemperature (lowerTemperatureLimit fuel (curve (now (temperatures .entry)) (now (pressures .entry)))) ⌝ }
-    ensures sound { λ _. ⌜ Sound (curve (now (temperatures .entry)) (now (pressures .entry))) ⌝ }
-{
-    let limits = fuel_limits_at(fuel, FIT_TEMPERATURE);
-    let declined = limits.refusal;
-    if 0 < declined.number {
-        return refused_temperature(declined.number, declined.place);
-    }
-    let c = Condition {
-        slope: 0,
-        base: 100,
-        level: 1013 * limits.lower,
-    };
-    on_curve(temperatures, pressures, c)
-}
-
-fn threshold_of(method: u64) -> u64
-    ensures { λ r. ⌜ (r ≡ threshold method) × (r ≤ 453) ⌝ }
-{
-    if method == 1 {
-        return 280;
-    }
-    if method == 2 {
-        return 427;
-    }
-    453
-}
-
-fn purpose_of(method: u64) -> Purpose
-    ensures { λ r. ⌜ r ≡ purposeOf method ⌝ }
-{
-    if method == 3 {
-        return Purpose::FirePoint;
-    }
-    Purpose::OxygenCoefficient
-}
-
-// Formula (35): method 1 closed cup, 2 open cup, 3 fire point; the diffusion coefficient in units of 0.0001 cm²/s.
-// Refusals 16, 2, 3, 4, 18, 11, 12, 13.
-pub fn flash_by_curve(
-    method: u64,
-    fuel: Atoms,
-    diffusion: u64,
-    temperatures: &[i64],
-    pressures: &[u64],
-) -> Temperature
-    ensures { λ r. ⌜ r ≡ shownTemperature (flashByCurve method fuel diffusion (curve (now (temperatures .entry)) (now (pressures .entry)))) ⌝ }
-    ensures sound { λ _. ⌜ Sound (curve (now (temperatures .entry)) (now (pressures .entry))) ⌝ }
-{
-    if is_not_within(3, method) {
-        return refused_temperature(refusal::UNKNOWN_METHOD, 0);
-    }
-    let oxygen = admit(purpose_of(method), fuel);
-    let declined = oxygen.refusal;
-    if 0 < declined.number {
-        return refused_temperature(declined.number, declined.place);
-    }
-    if is_not_within(20000, diffusion) {
-        return refused_temperature(refusal::DIFFUSION_OUTSIDE, 0);
-    }
-    let c = Condition {
-        slope: diffusion * oxygen.value,
-        base: 0,
-        level: threshold_of(method) * 4000000000,
-    };
-    on_curve(temperatures, pressures, c)
 }

@@ -1,26 +1,20 @@
-// The worked examples, proved, and a run of every other figure and place: what it writes is compared with the file stdout.
-ghost use mathlib.Core.Path.{_≡_};
-ghost use lib.ListN.{length};
-ghost use Rattle.examples.specs.Worked.{examples as worked, AllAsPrinted};
+// A run of every figure and place of document 01 and of the source documents: what it writes is compared with the file stdout.
+// Questions whose figure was fitted at 25 °C are asked at that temperature by its name.
+use answer::Refusal;
+use answer::Temperature;
+use answer::figure_unless;
 use blend::Blend;
 use blend::Blended;
+use blend::FIT_TEMPERATURE;
 use blend::Limits;
+use blend::limits_unless;
 use bonds::Bonds;
-use formula::Atoms;
+use elements::Atoms;
+use formula::read_formula;
 use libc::STDOUT_FILENO;
-use refusal::Refusal;
-use refusal::Temperature;
 
 mod readings;
 mod sources;
-
-// The number of worked examples. Each has the answer that is printed for it.
-fn worked_examples() -> u64
-    ensures { λ r. ⌜ r ≡ length worked ⌝ }
-    ensures printed { λ _. ⌜ AllAsPrinted ⌝ }
-{
-    15
-}
 
 fn show(text: &[u8]) {
     io::write_all(STDOUT_FILENO, text);
@@ -36,19 +30,7 @@ fn show_refusal(refusal: Refusal) {
 
 // Writes the counts into a room, and shows the room and the answer.
 fn show_written(count: [u64; 10], room: &mut [u8]) {
-    let written = jaloosewin::jlw_write_formula(
-        count[0],
-        count[1],
-        count[2],
-        count[3],
-        count[4],
-        count[5],
-        count[6],
-        count[7],
-        count[8],
-        count[9],
-        room,
-    );
+    let written = hill::write_formula(Atoms { count }, room);
     show(room);
     show(b": length ");
     io::print_decimal(STDOUT_FILENO, written.length);
@@ -59,7 +41,7 @@ fn show_written(count: [u64; 10], room: &mut [u8]) {
 
 // Reads a text, and shows the answer: a refusal, or the counts in Hill order.
 fn show_read(text: &[u8]) {
-    let read = jaloosewin::jlw_read_formula(text);
+    let read = read_formula(text);
     let refusal = read.refusal;
     if 0 < refusal.number {
         show_refusal(refusal);
@@ -67,7 +49,7 @@ fn show_read(text: &[u8]) {
     }
     let atoms = read.atoms;
     let mut out = [0u8; 64];
-    let written = formula::write_formula(atoms, &mut out);
+    let written = hill::write_formula(atoms, &mut out);
     let length = written.length as usize;
     if length <= 64 {
         show(&out[..length]);
@@ -157,7 +139,9 @@ fn show_limits(limits: Limits) {
 fn show_coefficient(text: &[u8]) {
     show(text);
     show(b": ");
-    let figure = jaloosewin::jlw_oxygen_coefficient(text);
+    let read = read_formula(text);
+    let fuel = read.atoms;
+    let figure = figure_unless(read.refusal, oxygen::oxygen_coefficient(fuel));
     let refusal = figure.refusal;
     if 0 < refusal.number {
         show_refusal(refusal);
@@ -165,8 +149,7 @@ fn show_coefficient(text: &[u8]) {
     }
     io::print_decimal(STDOUT_FILENO, figure.value);
     show(b" quarters, stoichiometric fraction ");
-    let fraction = jaloosewin::jlw_stoichiometric_fraction(text);
-    show_hundredths(fraction.value);
+    show_hundredths(oxygen::stoichiometric_fraction(fuel).value);
     show(b"\n");
 }
 
@@ -185,10 +168,13 @@ fn oxygen_coefficients() {
     show_coefficient(b"x");
 }
 
+// A fuel's limits at the temperature of their formulas' fit.
 fn show_fuel(text: &[u8]) {
     show(text);
     show(b": ");
-    show_limits(jaloosewin::jlw_fuel_limits(text));
+    let read = read_formula(text);
+    let fuel = read.atoms;
+    show_limits(limits_unless(read.refusal, limits::fuel_limits_at(fuel, FIT_TEMPERATURE)));
 }
 
 fn show_fuel_at(text: &[u8], temperature: i64) {
@@ -196,9 +182,20 @@ fn show_fuel_at(text: &[u8], temperature: i64) {
     show(b" at ");
     show_degrees(temperature);
     show(b": ");
-    show_limits(jaloosewin::jlw_fuel_limits_at(text, temperature));
+    let read = read_formula(text);
+    let fuel = read.atoms;
+    show_limits(limits_unless(read.refusal, limits::fuel_limits_at(fuel, temperature)));
     show(b"  in g/m3: ");
-    show_limits(jaloosewin::jlw_mass_concentration(text, temperature));
+    show_limits(limits_unless(read.refusal, limits::mass_concentration(fuel, temperature)));
+}
+
+// A fuel's limits with no temperature named.
+fn show_usual(text: &[u8]) {
+    show(text);
+    show(b" with no temperature named: ");
+    let read = read_formula(text);
+    let fuel = read.atoms;
+    show_limits(limits_unless(read.refusal, limits::fuel_limits(fuel)));
 }
 
 fn fuel_limits() {
@@ -219,6 +216,7 @@ fn fuel_limits() {
     show_fuel_at(b"CH4", 20000);
     show_fuel_at(b"CH4", 20001);
     show_fuel_at(b"CH4", -1);
+    show_usual(b"CH4");
 }
 
 // Shows what was answered, and hands the blend on.
@@ -233,29 +231,22 @@ fn show_added(b: Blend, text: &[u8], parts: u64) -> Blend {
     show(b" ");
     io::print_decimal(STDOUT_FILENO, parts);
     show(b": ");
-    show_blended(jaloosewin::jlw_add_fuel(b.total, b.lower, b.upper, text, parts))
+    show_blended(blend::add_fuel_text(b, text, parts))
 }
 
 fn show_joined(b: Blend, other: Blend) -> Blend {
     show(b"joined: ");
-    show_blended(jaloosewin::jlw_join_blends(
-        b.total,
-        b.lower,
-        b.upper,
-        other.total,
-        other.lower,
-        other.upper,
-    ))
+    show_blended(blend::join_blends(b, other))
 }
 
 fn show_blend(b: Blend) {
     show(b"limits: ");
-    show_limits(jaloosewin::jlw_blend_limits(b.total, b.lower, b.upper));
+    show_limits(blend::blend_limits_at(b, FIT_TEMPERATURE));
 }
 
 fn blends() {
     show(b"\nblends\n");
-    let empty = jaloosewin::jlw_empty_blend();
+    let empty = blend::empty_blend();
     show_blend(empty);
     let some = show_added(empty, b"C3H8", 300000);
     let full = show_added(some, b"C2H6", 700000);
@@ -266,7 +257,10 @@ fn blends() {
     show_joined(full, some);
     let joined = show_joined(some, some);
     show_blend(joined);
-    show_limits(jaloosewin::jlw_blend_limits_at(joined.total, joined.lower, joined.upper, 20001));
+    show(b"at 200.01: ");
+    show_limits(blend::blend_limits_at(joined, 20001));
+    show(b"with no temperature named: ");
+    show_limits(blend::blend_limits(joined));
     let nonsense = Blend {
         total: 1,
         lower: 9020,
@@ -309,10 +303,7 @@ fn bonds_of(single: u64, ring: u64, c_h: u64, c_o: u64, o_h: u64) -> Bonds {
 }
 
 fn show_bonds(name: &[u8], method: u64, atoms: Atoms, bonds: Bonds, boiling: i64) {
-    show_temperature(
-        name,
-        testing::jlt_flash_by_bonds(method, atoms, bonds, boiling),
-    );
+    show_temperature(name, flash::flash_by_bonds(method, atoms, bonds, boiling));
 }
 
 fn flash_points() {
@@ -321,7 +312,7 @@ fn flash_points() {
     show_bonds(b"ethanol, closed cup", 1, fuel(2, 6, 1), ethanol, 7840);
     show_bonds(b"ethanol, open cup", 2, fuel(2, 6, 1), ethanol, 7840);
     show_bonds(b"ethanol, fire point", 3, fuel(2, 6, 1), ethanol, 7840);
-    show_temperature(b"ethanol, alcohols", testing::jlt_flash_by_class(2, 7840));
+    show_temperature(b"ethanol, alcohols", flash::flash_by_class(2, 7840));
     let benzene = bonds_of(0, 6, 6, 0, 0);
     show_bonds(b"benzene at 80.10", 1, fuel(6, 6, 0), benzene, 8010);
     show_bonds(b"benzene at 80.05", 1, fuel(6, 6, 0), benzene, 8005);
@@ -336,13 +327,13 @@ fn flash_points() {
     );
     show_bonds(b"bonds of another", 1, fuel(7, 8, 0), benzene, 7840);
     show_bonds(b"boiling above 600.00", 1, fuel(2, 6, 1), ethanol, 60001);
-    show_temperature(b"class 11", testing::jlt_flash_by_class(11, 7840));
+    show_temperature(b"class 11", flash::flash_by_class(11, 7840));
 }
 
 fn show_lower(name: &[u8], fuel: Atoms) {
     show_temperature(
         name,
-        testing::jlt_lower_temperature_limit(fuel, &[0, 1000, 2000], &[1000, 2000, 4000]),
+        ignition::lower_temperature_limit(fuel, &[0, 1000, 2000], &[1000, 2000, 4000]),
     );
 }
 
@@ -355,13 +346,26 @@ fn show_by_curve(
 ) {
     show_temperature(
         name,
-        testing::jlt_flash_by_curve(method, fuel(6, 6, 0), diffusion, temperatures, pressures),
+        ignition::flash_by_curve(method, fuel(6, 6, 0), diffusion, temperatures, pressures),
     );
 }
 
-// The lower temperature limits, and C6H6 by formula (35).
+fn show_pressure(temperature: i64) {
+    show(b"pressure at ");
+    show_degrees(temperature);
+    show(b": ");
+    let answer = curve::pressure_at(&[0, 1000, 2000], &[1000, 2000, 4000], temperature);
+    io::print_decimal(STDOUT_FILENO, answer.value);
+    show(b"\n");
+}
+
+// The pressures, the lower temperature limits, and C6H6 by formula (35).
 fn curves() {
     show(b"\ncurves\n");
+    show_pressure(0);
+    show_pressure(1443);
+    show_pressure(1444);
+    show_pressure(2000);
     show_lower(b"C2H6", fuel(2, 6, 0));
     show_lower(b"C3H8", fuel(3, 8, 0));
     show_lower(b"CH4", fuel(1, 4, 0));
@@ -380,7 +384,7 @@ fn curves() {
 }
 
 fn main() {
-    io::print_decimal(STDOUT_FILENO, worked_examples());
+    io::print_decimal(STDOUT_FILENO, worked::worked_examples());
     show(b" worked examples proved\n");
     read_formulas();
     write_formulas();

@@ -1,8 +1,11 @@
 // The analyser's readings at their edges, and its methods.
 use crate::show;
 use crate::show_refusal;
+use analyser::Method;
+use analyser::Reading;
+use analyser::parts_of;
+use answer::Figure;
 use libc::STDOUT_FILENO;
-use refusal::Figure;
 
 fn not_a_number() -> f64 {
     0.0 / 0.0
@@ -10,6 +13,10 @@ fn not_a_number() -> f64 {
 
 fn infinity() -> f64 {
     1.0 / 0.0
+}
+
+fn method_of(limit: f64, ceiling: f64) -> Method {
+    Method { limit, ceiling }
 }
 
 fn show_parts(name: &[u8], answer: Figure) {
@@ -26,22 +33,31 @@ fn show_parts(name: &[u8], answer: Figure) {
 
 // By a method that takes every percentage.
 fn show_percent(name: &[u8], reading: f64) {
-    show_parts(name, testing::jlt_parts_of_percent(0.0, 100.0, reading));
+    show_parts(
+        name,
+        parts_of(method_of(0.0, 100.0), Reading::Percent(reading)),
+    );
 }
 
 // By a method that takes every count of parts per million.
 fn show_ppm(name: &[u8], reading: f64) {
-    show_parts(name, testing::jlt_parts_of_ppm(0.0, 1000000.0, reading));
+    show_parts(
+        name,
+        parts_of(method_of(0.0, 1000000.0), Reading::Ppm(reading)),
+    );
 }
 
 // By a method from 2.5 % to 20 %.
 fn show_limited(name: &[u8], reading: f64) {
-    show_parts(name, testing::jlt_parts_of_percent(2.5, 20.0, reading));
+    show_parts(
+        name,
+        parts_of(method_of(2.5, 20.0), Reading::Percent(reading)),
+    );
 }
 
 // 2 ppm by a method.
 fn show_method(name: &[u8], limit: f64, ceiling: f64) {
-    show_parts(name, testing::jlt_parts_of_ppm(limit, ceiling, 2.0));
+    show_parts(name, parts_of(method_of(limit, ceiling), Reading::Ppm(2.0)));
 }
 
 fn readings() {
@@ -80,12 +96,15 @@ fn methods() {
     show_method(b"infinite ceiling", 0.0, infinity());
     show_parts(
         b"ppm for percent",
-        testing::jlt_parts_of_percent(0.0, 1000000.0, 2.0),
+        parts_of(method_of(0.0, 1000000.0), Reading::Percent(2.0)),
     );
-    show_parts(b"overload", testing::jlt_parts_of_overload(0.0, 1000000.0));
+    show_parts(
+        b"overload",
+        parts_of(method_of(0.0, 1000000.0), Reading::Overload),
+    );
     show_parts(
         b"overload, limit above the ceiling",
-        testing::jlt_parts_of_overload(3.0, 2.0),
+        parts_of(method_of(3.0, 2.0), Reading::Overload),
     );
 }
 

@@ -6,11 +6,12 @@ use crate::show_bonds;
 use crate::show_fuel;
 use crate::show_hundredths;
 use crate::show_limits;
+use blend::FIT_TEMPERATURE;
 
 // Source document 000: ethylene glycol's stoichiometric fraction, toluene's flash point.
 fn show_handbook() {
     show(b"000, C2H6O2, printed 7.63 %: ");
-    let fraction = jaloosewin::jlw_stoichiometric_fraction(b"C2H6O2");
+    let fraction = oxygen::stoichiometric_fraction(fuel(2, 6, 2));
     show_hundredths(fraction.value);
     show(b"\n");
     show_bonds(
@@ -29,15 +30,15 @@ fn show_problem_7() {
     show(b"003, problem 7, printed 2.85 and 16.71 %, ");
     show_fuel(b"C2H6");
     show(b"003, problem 7, printed 2.57 and 14.97 %, both: ");
-    let first = jaloosewin::jlw_add_fuel(0, 0, 0, b"C3H8", 30).blend;
-    let both = jaloosewin::jlw_add_fuel(first.total, first.lower, first.upper, b"C2H6", 70).blend;
-    show_limits(jaloosewin::jlw_blend_limits(both.total, both.lower, both.upper));
+    let first = blend::add_fuel(blend::empty_blend(), fuel(3, 8, 0), 30).blend;
+    let both = blend::add_fuel(first, fuel(2, 6, 0), 70).blend;
+    show_limits(blend::blend_limits_at(both, FIT_TEMPERATURE));
 }
 
 // Source document 003, problem 8: methane at 134.00.
 fn show_problem_8() {
     show(b"003, problem 8, printed 19.88 and 148.4 g/m3: ");
-    show_limits(jaloosewin::jlw_mass_concentration(b"CH4", 13400));
+    show_limits(limits::mass_concentration(fuel(1, 4, 0), 13400));
 }
 
 pub fn show_sources() {

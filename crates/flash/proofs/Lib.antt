@@ -1,5 +1,2 @@
-pub mod Entries
-pub mod Terms
-pub mod Sums
-pub mod Tests
-pub mod Answers
+pub mod Sizes
+pub mod Columns

@@ -1,3 +1,3 @@
 pub mod Tables
 pub mod Points
-pub mod Held
+pub mod Internal

@@ -1,68 +1,61 @@
--- Flash and fire points from bonds, formula (33), and from a class, formula (34).
-use mathlib.Core.Bool.{Bool, true, false, _&&_, _||_}
-use mathlib.Core.List.{List, [], _∷_, map}
-use mathlib.Core.Option.{Option, none, some}
+-- Flash and fire points from bonds, formula (33), and from a class, formula (34) (document 01, "Bonds and classes").
+use mathlib.Core.Bool.{Bool, true, false, _&&_}
+use mathlib.Core.List.{List, [], _∷_, _++_, map}
+use mathlib.Core.Option.{Option, none, Option·getD, Option·elim}
 use Prim.Native.Nat.{ℕ, zero, suc, _-_}
 use lib.Dec.{ltb}
 use lib.IntN.{ℤ, pos, negℤ, _+ℤ_, _*ℤ_}
 use lib.ListN.{getD}
-use lib.Signed.{ltZ}
-use Rattle.refusal.specs.Numbers.{countTooLarge, hydrogenDiffers as H-differs, noCoefficient as no-coefficient, boilingPointOutside, unknownMethod}
-use Rattle.refusal.specs.Lowest.{lowest}
-use Rattle.refusal.specs.Outcome.{Outcome, answered, refuse, refuseAt}
-use Rattle.refusal.specs.Within.{notWithin}
+use Rattle.answer.specs.Numbers.{countTooLarge, hydrogenDiffers, noCoefficient, boilingPointOutside, unknownMethod}
+use Rattle.answer.specs.Lowest.{lowest}
+use Rattle.answer.specs.Outcome.{Outcome, answered, refuse, refuseAt}
+use Rattle.answer.specs.Outside.{outside}
 use Rattle.rounding.specs.Round.{roundDivℤ}
-use Rattle.formula.specs.declared.Atoms.{Atoms}
+use Rattle.elements.specs.declared.Atoms.{Atoms}
 use Rattle.bonds.specs.declared.Bonds.{Bonds}
-use Rattle.bonds.specs.Kinds.{bondsAt, aboveAt, hydrogenDiffers}
-use Rattle.flash.specs.Tables.{coefficients, methods, classes}
+use Rattle.bonds.specs.Kinds.{bondsAt, aboveAt, hydrogenUnbalanced}
+use Rattle.flash.specs.declared.Linear.{Linear}
+use Rattle.flash.specs.Tables.{coefficients, methods, classes, nowhere}
 
--- line k of a table, from 1: its constant and its slope, in thousandths
-abbrev pub entry : List (List ℤ) → ℕ → ℕ → ℤ
-entry table k column = getD (getD table (k - 1) []) column (pos 0)
+-- line k of a table, from 1
+abbrev pub line : List Linear → ℕ → Linear
+line table k = getD table (k - 1) nowhere
 
 -- the coefficient of bond kind j for a method, in thousandths
 abbrev pub coefficient : ℕ → ℕ → Option ℤ
 coefficient m j = getD (getD coefficients (j - 1) []) (m - 1) none
 
-abbrev pub orNothing : Option ℤ → ℤ
-orNothing (some a) = a
-orNothing none = pos 0
-
-abbrev pub isBlank : Option ℤ → Bool
-isBlank (some a) = false
-isBlank none = true
-
--- REFUSALS
--- outside −200.00 to 600.00
-unfoldable pub outside : ℤ → Bool
-outside t = ltZ t (negℤ (pos 20000)) || ltZ (pos 60000) t
-
--- the lowest kind with a count above 0 and no coefficient
+-- REFUSALS. A kind has a count above 0 and no coefficient; the lowest such kind.
 unfoldable pub missing : ℕ → Bonds → ℕ → Bool
-missing m b j = ltb 0 (bondsAt b j) && isBlank (coefficient m j)
+missing m b j = ltb 0 (bondsAt b j) && Option·elim (coefficient m j) true (λ a. false)
 
 unfoldable pub noCoefficientAt : ℕ → Bonds → Option ℕ
 noCoefficientAt m b = lowest (missing m b) 1 22
 
--- THE FIGURES, in hundred-thousandths of a degree: temperatures are hundredths, coefficients thousandths
-abbrev pub constantTerm : ℤ → ℤ
-constantTerm a = pos 100 *ℤ a
+-- outside −200.00 to 600.00
+abbrev pub boilingOutside : ℤ → Bool
+boilingOutside t = outside (negℤ (pos 20000)) (pos 60000) t
 
-abbrev pub boilingTerm : ℤ → ℤ → ℤ
-boilingTerm a t = a *ℤ t
+-- THE FIGURES, in hundred-thousandths of a degree: temperatures are hundredths, coefficients thousandths.
+-- what a line says: constant + slope · boiling point
+unfoldable pub lineTerms : Linear → ℤ → List ℤ
+lineTerms l t = (pos 100 *ℤ l .constant) ∷ (l .slope *ℤ t) ∷ []
 
+-- what the bonds of a kind add
 unfoldable pub bondTerm : ℕ → Bonds → ℕ → ℤ
-bondTerm m b j = pos 100 *ℤ (orNothing (coefficient m j) *ℤ pos (bondsAt b j))
+bondTerm m b j = pos 100 *ℤ Option·getD (coefficient m j) (pos 0) *ℤ pos (bondsAt b j)
 
 -- j, j + 1, .. (n of them)
 abbrev pub from : ℕ → ℕ → List ℕ
 from j zero = []
 from j (suc n) = j ∷ from (suc j) n
 
--- the terms of formula (33), and their sum
+-- the terms of formulas (33) and (34), and their sum
 unfoldable pub terms : ℕ → Bonds → ℤ → List ℤ
-terms m b t = constantTerm (entry methods m 0) ∷ boilingTerm (entry methods m 1) t ∷ map (bondTerm m b) (from 1 22)
+terms m b t = lineTerms (line methods m) t ++ map (bondTerm m b) (from 1 22)
+
+unfoldable pub classTerms : ℕ → ℤ → List ℤ
+classTerms k t = lineTerms (line classes k) t
 
 unfoldable pub sumFrom : ℤ → List ℤ → ℤ
 sumFrom s [] = s
@@ -75,19 +68,16 @@ rounded xs = roundDivℤ (sumFrom (pos 0) xs) 1000
 -- formula (33), with its refusals in their order
 unfoldable pub byBonds : ℕ → Atoms → Bonds → ℤ → Outcome ℤ
 byBonds m a b t =
-    refuse unknownMethod 0 (notWithin 3 m)
+    refuse unknownMethod 0 (outside (pos 1) (pos 3) (pos m))
     (refuseAt countTooLarge (aboveAt a b)
-    (refuse H-differs 0 (hydrogenDiffers a b)
-    (refuseAt no-coefficient (noCoefficientAt m b)
-    (refuse boilingPointOutside 0 (outside t)
+    (refuse hydrogenDiffers 0 (hydrogenUnbalanced a b)
+    (refuseAt noCoefficient (noCoefficientAt m b)
+    (refuse boilingPointOutside 0 (boilingOutside t)
     (answered (rounded (terms m b t)))))))
 
--- formula (34): a + b · boiling point
-unfoldable pub classTerms : ℕ → ℤ → List ℤ
-classTerms k t = constantTerm (entry classes k 0) ∷ boilingTerm (entry classes k 1) t ∷ []
-
+-- formula (34)
 unfoldable pub byClass : ℕ → ℤ → Outcome ℤ
 byClass k t =
-    refuse unknownMethod 0 (notWithin 10 k)
-    (refuse boilingPointOutside 0 (outside t)
+    refuse unknownMethod 0 (outside (pos 1) (pos 10) (pos k))
+    (refuse boilingPointOutside 0 (boilingOutside t)
     (answered (rounded (classTerms k t))))

@@ -3,6 +3,7 @@ use mathlib.Core.List.{List, [], _∷_}
 use mathlib.Core.Option.{Option, none, some}
 use Prim.Native.Nat.{ℕ}
 use lib.IntN.{ℤ, pos, negℤ}
+use Rattle.flash.specs.declared.Linear.{Linear}
 
 abbrev plus : ℕ → Option ℤ
 plus n = some (pos n)
@@ -37,25 +38,33 @@ coefficients =
     ∷ (none ∷ plus 50490 ∷ none ∷ [])  -- 22 SiCl3
     ∷ []
 
--- a constant and a slope for each method
-abbrev pub methods : List (List ℤ)
+-- a constant and a slope
+abbrev pub linearOf : ℤ → ℤ → Linear
+linearOf a b = record { constant = a; slope = b }
+
+-- past the end of a table
+abbrev pub nowhere : Linear
+nowhere = linearOf (pos 0) (pos 0)
+
+-- of each method
+unfoldable pub methods : List Linear
 methods =
-    (negℤ (pos 73140) ∷ pos 659 ∷ [])  -- 1 closed cup
-    ∷ (negℤ (pos 73000) ∷ pos 409 ∷ [])  -- 2 open cup
-    ∷ (negℤ (pos 47780) ∷ pos 882 ∷ [])  -- 3 fire point
+    linearOf (negℤ (pos 73140)) (pos 659)  -- 1 closed cup
+    ∷ linearOf (negℤ (pos 73000)) (pos 409)  -- 2 open cup
+    ∷ linearOf (negℤ (pos 47780)) (pos 882)  -- 3 fire point
     ∷ []
 
--- and for each class
-abbrev pub classes : List (List ℤ)
+-- of each class
+unfoldable pub classes : List Linear
 classes =
-    (negℤ (pos 73220) ∷ pos 693 ∷ [])  -- 1 alkanes
-    ∷ (negℤ (pos 41690) ∷ pos 652 ∷ [])  -- 2 alcohols
-    ∷ (negℤ (pos 21940) ∷ pos 533 ∷ [])  -- 3 alkylanilines
-    ∷ (negℤ (pos 43570) ∷ pos 708 ∷ [])  -- 4 carboxylic acids
-    ∷ (negℤ (pos 38420) ∷ pos 623 ∷ [])  -- 5 alkylphenols
-    ∷ (negℤ (pos 67830) ∷ pos 665 ∷ [])  -- 6 aromatic hydrocarbons
-    ∷ (negℤ (pos 74760) ∷ pos 813 ∷ [])  -- 7 aldehydes
-    ∷ (negℤ (pos 49560) ∷ pos 665 ∷ [])  -- 8 bromoalkanes
-    ∷ (negℤ (pos 52690) ∷ pos 643 ∷ [])  -- 9 ketones
-    ∷ (negℤ (pos 55700) ∷ pos 631 ∷ [])  -- 10 chloroalkanes
+    linearOf (negℤ (pos 73220)) (pos 693)  -- 1 alkanes
+    ∷ linearOf (negℤ (pos 41690)) (pos 652)  -- 2 alcohols
+    ∷ linearOf (negℤ (pos 21940)) (pos 533)  -- 3 alkylanilines
+    ∷ linearOf (negℤ (pos 43570)) (pos 708)  -- 4 carboxylic acids
+    ∷ linearOf (negℤ (pos 38420)) (pos 623)  -- 5 alkylphenols
+    ∷ linearOf (negℤ (pos 67830)) (pos 665)  -- 6 aromatic hydrocarbons
+    ∷ linearOf (negℤ (pos 74760)) (pos 813)  -- 7 aldehydes
+    ∷ linearOf (negℤ (pos 49560)) (pos 665)  -- 8 bromoalkanes
+    ∷ linearOf (negℤ (pos 52690)) (pos 643)  -- 9 ketones
+    ∷ linearOf (negℤ (pos 55700)) (pos 631)  -- 10 chloroalkanes
     ∷ []

@@ -1,81 +1,89 @@
 // Flash and fire points from bonds, formula (33), and from a class, formula (34).
 ghost use mathlib.Core.Path.{_≡_};
+ghost use mathlib.Core.Option.{Option·getD};
 ghost use Prim.Native.Nat.{_≤_};
-ghost use lib.IntN.{pos, natAbs};
-ghost use Rattle.refusal.specs.Lowest.{orZero};
-ghost use Rattle.refusal.specs.Outcome.{answered, shownTemperature};
-ghost use Rattle.rounding.specs.Round.{roundDivℤ};
-ghost use Rattle.flash.specs.Points.{outside, noCoefficientAt, terms, sumFrom, classTerms, byBonds, byClass};
-ghost use Rattle.flash.specs.Held.{Method, FewBonds, column, blank, termOf};
+ghost use lib.IntN.{pos, natAbs, _*ℤ_};
+ghost use Rattle.answer.specs.Lowest.{lowest};
+ghost use Rattle.answer.specs.Outcome.{shownTemperature};
+ghost use Rattle.flash.specs.Tables.{linearOf, methods, classes};
+ghost use Rattle.flash.specs.Points.{line, boilingOutside, lineTerms, sumFrom, byBonds, byClass};
+ghost use Rattle.flash.specs.Internal.{KnownMethod, KnownClass, SmallLine, SmallColumn, FewBonds, column, blank, blankAt, termsFrom, shownSum};
+use answer::Temperature;
+use answer::answered_temperature;
+use answer::is_outside;
+use answer::is_outside_signed;
+use answer::refused_temperature;
 use bonds::Bonds;
 use bonds::first_above_200;
-use bonds::hydrogen_differs;
-use formula::Atoms;
-use refusal::Refusal;
-use refusal::Temperature;
-use refusal::is_not_within;
-use refusal::refused_temperature;
+use bonds::hydrogen_is_unbalanced;
+use elements::Atoms;
 use rounding::round_div_signed;
 
-// The bonds' coefficients in thousandths, by method. 0 is a blank of the table.
+// A straight line of the boiling point, in thousandths.
+struct Linear {
+    constant: i64,
+    slope: i64,
+}
+
+// The bonds' coefficients in hundred-thousandths of a degree, by method. 0 is a blank of the table.
 const CLOSED_CUP: [i64; 22] = [
-    -2030, // 1 C–C
-    -280, // 2 C…C
-    1720, // 3 C=C
-    1105, // 4 C–H
-    2470, // 5 C–O
-    11660, // 6 C=O
-    14150, // 7 C–N
-    12130, // 8 C≡N
-    2090, // 9 C–S
-    -11910, // 10 C=S
-    3330, // 11 C–F
-    15110, // 12 C–Cl
-    19400, // 13 C–Br
-    -4840, // 14 C–Si
-    11000, // 15 Si–H
-    10070, // 16 Si–Cl
-    5830, // 17 N–H
-    23900, // 18 O–H
-    5640, // 19 S–H
-    3270, // 20 P–O
-    9640, // 21 P=O
+    -203000, // 1 C–C
+    -28000, // 2 C…C
+    172000, // 3 C=C
+    110500, // 4 C–H
+    247000, // 5 C–O
+    1166000, // 6 C=O
+    1415000, // 7 C–N
+    1213000, // 8 C≡N
+    209000, // 9 C–S
+    -1191000, // 10 C=S
+    333000, // 11 C–F
+    1511000, // 12 C–Cl
+    1940000, // 13 C–Br
+    -484000, // 14 C–Si
+    1100000, // 15 Si–H
+    1007000, // 16 Si–Cl
+    583000, // 17 N–H
+    2390000, // 18 O–H
+    564000, // 19 S–H
+    327000, // 20 P–O
+    964000, // 21 P=O
     0, // 22 SiCl3
 ];
 
 const OPEN_CUP: [i64; 22] = [
-    3630, // 1 C–C
-    6480, // 2 C…C
-    -4180, // 3 C=C
-    350, // 4 C–H
-    4620, // 5 C–O
-    25360, // 6 C=O
-    -7030, // 7 C–N
+    363000, // 1 C–C
+    648000, // 2 C…C
+    -418000, // 3 C=C
+    35000, // 4 C–H
+    462000, // 5 C–O
+    2536000, // 6 C=O
+    -703000, // 7 C–N
     0, // 8 C≡N
-    14860, // 9 C–S
+    1486000, // 9 C–S
     0, // 10 C=S
     0, // 11 C–F
     0, // 12 C–Cl
     0, // 13 C–Br
     0, // 14 C–Si
-    -4580, // 15 Si–H
+    -458000, // 15 Si–H
     0, // 16 Si–Cl
-    18150, // 17 N–H
-    44290, // 18 O–H
-    10750, // 19 S–H
-    22230, // 20 P–O
-    -9860, // 21 P=O
-    50490, // 22 SiCl3
+    1815000, // 17 N–H
+    4429000, // 18 O–H
+    1075000, // 19 S–H
+    2223000, // 20 P–O
+    -986000, // 21 P=O
+    5049000, // 22 SiCl3
 ];
 
 const FIRE_POINT: [i64; 22] = [
-    27, // 1 C–C
-    -2069, // 2 C…C
-    -8980, // 3 C=C
-    -2118, // 4 C–H
-    -111, // 5 C–O
-    -826, // 6 C=O
-    -5876, // 7 C–N
+    2700, // 1 C–C
+    -206900, // 2 C…C
+    -898000, // 3 C=C
+    -211800, // 4 C–H
+    -11100, // 5 C–O
+    -82600, // 6 C=O
+    -587600, // 7 C–N
     0, // 8 C≡N
     0, // 9 C–S
     0, // 10 C=S
@@ -85,37 +93,55 @@ const FIRE_POINT: [i64; 22] = [
     0, // 14 C–Si
     0, // 15 Si–H
     0, // 16 Si–Cl
-    -261, // 17 N–H
-    8216, // 18 O–H
+    -26100, // 17 N–H
+    821600, // 18 O–H
     0, // 19 S–H
     0, // 20 P–O
     0, // 21 P=O
     0, // 22 SiCl3
 ];
 
-// A constant and a slope in thousandths.
-const METHODS: [[i64; 2]; 3] = [
-    [-73140, 659], // 1 closed cup
-    [-73000, 409], // 2 open cup
-    [-47780, 882], // 3 fire point
-];
+// A line by its constant and its slope.
+fn line_of(constant: i64, slope: i64) -> Linear
+    ensures { λ r. ⌜ r ≡ linearOf constant slope ⌝ }
+{
+    Linear { constant, slope }
+}
 
-const CLASSES: [[i64; 2]; 10] = [
-    [-73220, 693], // 1 alkanes
-    [-41690, 652], // 2 alcohols
-    [-21940, 533], // 3 alkylanilines
-    [-43570, 708], // 4 carboxylic acids
-    [-38420, 623], // 5 alkylphenols
-    [-67830, 665], // 6 aromatic hydrocarbons
-    [-74760, 813], // 7 aldehydes
-    [-49560, 665], // 8 bromoalkanes
-    [-52690, 643], // 9 ketones
-    [-55700, 631], // 10 chloroalkanes
-];
+// A method's line.
+fn method_line(method: u64) -> Linear
+    requires { ⌜ KnownMethod method ⌝ }
+    ensures { λ r. ⌜ r ≡ line methods method ⌝ }
+{
+    match method {
+        1 => line_of(-73140, 659), // closed cup
+        2 => line_of(-73000, 409), // open cup
+        _ => line_of(-47780, 882), // 3 fire point
+    }
+}
+
+// A class's line.
+fn class_line(class: u64) -> Linear
+    requires { ⌜ KnownClass class ⌝ }
+    ensures { λ r. ⌜ r ≡ line classes class ⌝ }
+{
+    match class {
+        1 => line_of(-73220, 693), // alkanes
+        2 => line_of(-41690, 652), // alcohols
+        3 => line_of(-21940, 533), // alkylanilines
+        4 => line_of(-43570, 708), // carboxylic acids
+        5 => line_of(-38420, 623), // alkylphenols
+        6 => line_of(-67830, 665), // aromatic hydrocarbons
+        7 => line_of(-74760, 813), // aldehydes
+        8 => line_of(-49560, 665), // bromoalkanes
+        9 => line_of(-52690, 643), // ketones
+        _ => line_of(-55700, 631), // 10 chloroalkanes
+    }
+}
 
 // A method's coefficients.
-fn column_of(method: usize) -> [i64; 22]
-    requires { ⌜ Method method ⌝ }
+fn column_of(method: u64) -> [i64; 22]
+    requires { ⌜ KnownMethod method ⌝ }
     ensures { λ r. ⌜ r ≡ column method ⌝ }
 {
     if method == 1 {
@@ -128,13 +154,10 @@ fn column_of(method: usize) -> [i64; 22]
 }
 
 // Whether a boiling point is outside −200.00 to 600.00.
-fn is_outside(t: i64) -> bool
-    ensures { λ r. ⌜ r ≡ outside t ⌝ }
+fn is_boiling_outside(boiling: i64) -> bool
+    ensures { λ r. ⌜ r ≡ boilingOutside boiling ⌝ }
 {
-    if t < -20000 {
-        return true;
-    }
-    60000 < t
+    is_outside_signed(-20000, 60000, boiling)
 }
 
 // Whether there are bonds, and their coefficient is a blank.
@@ -148,11 +171,10 @@ fn is_missing(bonds: u64, coefficient: i64) -> bool
 }
 
 // The lowest kind with a count and no coefficient, 0 where there is none.
-fn first_missing(method: usize, bonds: Bonds) -> u64
-    requires { ⌜ Method method ⌝ }
-    ensures { λ r. ⌜ r ≡ orZero (noCoefficientAt method bonds) ⌝ }
+fn first_missing(column: [i64; 22], bonds: Bonds) -> u64
+    requires { ⌜ SmallColumn column ⌝ }
+    ensures { λ r. ⌜ r ≡ Option·getD (lowest (blankAt column bonds) 1 22) 0 ⌝ }
 {
-    let column = column_of(method);
     let mut i: usize = 0;
     while i < 22 {
         if is_missing(bonds.count[i], column[i]) {
@@ -165,81 +187,76 @@ fn first_missing(method: usize, bonds: Bonds) -> u64
 
 // What the bonds of a kind add.
 fn bond_term(bonds: u64, coefficient: i64) -> i64
-    requires { ⌜ (bonds ≤ 200) × (natAbs coefficient ≤ 50490) ⌝ }
-    ensures { λ r. ⌜ (r ≡ termOf coefficient bonds) × (natAbs r ≤ 1009800000) ⌝ }
+    requires { ⌜ (bonds ≤ 200) × (natAbs coefficient ≤ 5049000) ⌝ }
+    ensures { λ r. ⌜ (r ≡ coefficient *ℤ pos bonds) × (natAbs r ≤ 1009800000) ⌝ }
 {
-    100 * (coefficient * bonds as i64)
+    coefficient * bonds as i64
 }
 
-// The sum of the terms of formula (33).
-fn bond_sum(method: usize, bonds: Bonds, boiling: i64) -> i64
-    requires { ⌜ Method method × FewBonds bonds × (natAbs boiling ≤ 60000) ⌝ }
-    ensures { λ r. ⌜ r ≡ sumFrom (pos 0) (terms method bonds boiling) ⌝ }
+// What a line says at a boiling point, in hundred-thousandths of a degree.
+fn line_sum(line: Linear, boiling: i64) -> i64
+    requires { ⌜ SmallLine line × (natAbs boiling ≤ 60000) ⌝ }
+    ensures { λ r. ⌜ (r ≡ sumFrom (pos 0) (lineTerms line boiling)) × (natAbs r ≤ 70000000) ⌝ }
 {
-    let mut sum = 100 * METHODS[method - 1][0] + METHODS[method - 1][1] * boiling;
-    let column = column_of(method);
-    let mut i: usize = 0;
-    while i < 22 {
-        sum += bond_term(bonds.count[i], column[i]);
-        i += 1;
+    100 * line.constant + line.slope * boiling
+}
+
+// The same with what the bonds add.
+fn bond_sum(start: i64, column: [i64; 22], bonds: Bonds) -> i64
+    requires { ⌜ (natAbs start ≤ 70000000) × SmallColumn column × FewBonds bonds ⌝ }
+    ensures { λ r. ⌜ r ≡ sumFrom start (termsFrom column bonds 0) ⌝ }
+{
+    let mut sum = start;
+    let mut k: usize = 0;
+    while k < 22 {
+        sum += bond_term(bonds.count[k], column[k]);
+        k += 1;
     }
     sum
 }
 
-// The sum of the terms of formula (34).
-fn class_sum(class: usize, boiling: i64) -> i64
-    requires { ⌜ (1 ≤ class) × (class ≤ 10) × (natAbs boiling ≤ 60000) ⌝ }
-    ensures { λ r. ⌜ r ≡ sumFrom (pos 0) (classTerms class boiling) ⌝ }
-{
-    100 * CLASSES[class - 1][0] + CLASSES[class - 1][1] * boiling
-}
-
 // A sum in hundred-thousandths of a degree, rounded once to hundredths.
 fn rounded(sum: i64) -> Temperature
-    ensures { λ r. ⌜ r ≡ shownTemperature (answered (roundDivℤ sum 1000)) ⌝ }
+    ensures { λ r. ⌜ r ≡ shownSum sum ⌝ }
 {
-    Temperature {
-        refusal: Refusal {
-            number: 0,
-            place: 0,
-        },
-        value: round_div_signed(sum, 1000),
-    }
+    answered_temperature(round_div_signed(sum, 1000))
 }
 
 // The flash or fire point from bonds: methods 1 closed cup, 2 open cup, 3 fire point. Refusals 16, 2, 5, 6, 7.
 pub fn flash_by_bonds(method: u64, atoms: Atoms, bonds: Bonds, boiling: i64) -> Temperature
     ensures { λ r. ⌜ r ≡ shownTemperature (byBonds method atoms bonds boiling) ⌝ }
 {
-    if is_not_within(3, method) {
-        return refused_temperature(refusal::UNKNOWN_METHOD, 0);
+    if is_outside(1, 3, method) {
+        return refused_temperature(answer::UNKNOWN_METHOD, 0);
     }
     let over = first_above_200(atoms, bonds);
     if 0 < over {
-        return refused_temperature(refusal::COUNT_TOO_LARGE, over);
+        return refused_temperature(answer::COUNT_TOO_LARGE, over);
     }
-    if hydrogen_differs(atoms, bonds) {
-        return refused_temperature(refusal::HYDROGEN_DIFFERS, 0);
+    if hydrogen_is_unbalanced(atoms, bonds) {
+        return refused_temperature(answer::HYDROGEN_DIFFERS, 0);
     }
-    let missing = first_missing(method as usize, bonds);
+    let column = column_of(method);
+    let missing = first_missing(column, bonds);
     if 0 < missing {
-        return refused_temperature(refusal::NO_COEFFICIENT, missing);
+        return refused_temperature(answer::NO_COEFFICIENT, missing);
     }
-    if is_outside(boiling) {
-        return refused_temperature(refusal::BOILING_POINT_OUTSIDE, 0);
+    if is_boiling_outside(boiling) {
+        return refused_temperature(answer::BOILING_POINT_OUTSIDE, 0);
     }
-    rounded(bond_sum(method as usize, bonds, boiling))
+    let start = line_sum(method_line(method), boiling);
+    rounded(bond_sum(start, column, bonds))
 }
 
 // The flash point from a class, 1 to 10. Refusals 16, 7.
 pub fn flash_by_class(class: u64, boiling: i64) -> Temperature
     ensures { λ r. ⌜ r ≡ shownTemperature (byClass class boiling) ⌝ }
 {
-    if is_not_within(10, class) {
-        return refused_temperature(refusal::UNKNOWN_METHOD, 0);
+    if is_outside(1, 10, class) {
+        return refused_temperature(answer::UNKNOWN_METHOD, 0);
     }
-    if is_outside(boiling) {
-        return refused_temperature(refusal::BOILING_POINT_OUTSIDE, 0);
+    if is_boiling_outside(boiling) {
+        return refused_temperature(answer::BOILING_POINT_OUTSIDE, 0);
     }
-    rounded(class_sum(class as usize, boiling))
+    rounded(line_sum(class_line(class), boiling))
 }

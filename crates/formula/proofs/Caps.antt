@@ -7,13 +7,13 @@ use native.Mathlib.Decide.{decLe, decLt, ℕ-discrete}
 use native.Mathlib.Omega.{arith}
 use borrow.Author.Count.{below-more}
 use borrow.Author.Tests.{lt-ltb, le-ltb, eq-eqb, ne-eqb}
-use lib.ListN.{length, getD, set, replicate, length-set, getD-replicate}
+use lib.ListN.{length, getD, set, length-set, getD-replicate}
 use lib.Seq.{getD-set-same, getD-set-other}
 use lib.Dec.{ltb}
-use Rattle.formula.specs.declared.Element.{Element}
-use Rattle.formula.specs.Elements.{Totals, number, nothing, one, plus, times}
-use Rattle.formula.specs.Held.{cap, Holds, WithElement, WithGroup}
-use Rattle.formula.proofs.Elements.{number-from, number-to}
+use Rattle.elements.specs.declared.Element.{Element}
+use Rattle.elements.specs.Elements.{Totals, number, nothing, one, plus, times}
+use Rattle.formula.specs.Internal.{cap, Counted, zeros, Adds}
+use Rattle.elements.proofs.Elements.{number-from, number-to}
 
 cap-factor : (a b n : ℕ) → cap (a + cap b * n) ≡ cap (a + b * n)
 cap-factor a b zero = omega arith
@@ -38,20 +38,19 @@ over-cap n = go (decLt 200 n)
     go (yes l) = rw (lt-ltb 200 n l) (lt-ltb 200 (cap n) (omega arith))
     go (no l) = rw (le-ltb 200 n (omega arith)) (le-ltb 200 (cap n) (omega arith))
 
--- ARRAYS THAT HOLD TOTALS: nothing
-pub holds-nothing : Holds (replicate 10 0) nothing
-holds-nothing = record { ten = refl; each = λ e. getD-replicate 10 (number e - 1) 0 0 (omega (arith, number-to e)) }
+-- ARRAYS: no atoms, and what is added to an array
+zeros-hold : Counted zeros nothing
+zeros-hold = record { ten = refl; each = λ e. getD-replicate 10 (number e - 1) 0 0 (omega (arith, number-to e)) }
 
--- totals counted from nothing, and in any grouping
-pub holds-from : (a : List ℕ) (m : Totals) → Holds a (plus nothing m) → Holds a m
-holds-from a m p = record { ten = p .ten; each = λ e. p .each e ∙ ap cap (zero-add (m e)) }
+pub from-zeros : (m : Totals) {a : List ℕ} → Adds zeros m a → Counted a m
+from-zeros m f = let k = f nothing zeros-hold in record { ten = k .ten; each = λ e. k .each e ∙ ap cap (zero-add (m e)) }
 
-pub holds-assoc : (a : List ℕ) (h m n : Totals) → Holds a (plus (plus h m) n) → Holds a (plus h (plus m n))
-holds-assoc a h m n p = record { ten = p .ten; each = λ e. p .each e ∙ ap cap (add-assoc (h e) (m e) (n e)) }
+pub adds-more : (m n : Totals) {a b c : List ℕ} → Adds a m b → Adds b n c → Adds a (plus m n) c
+adds-more m n f g h ha = let k = g (plus h m) (f h ha) in record { ten = k .ten; each = λ e. k .each e ∙ ap cap (add-assoc (h e) (m e) (n e)) }
 
 -- the count of the element e, which has the number k, raised by n
-pub holds-element : (a : List ℕ) (e : Element) (n k v : ℕ) → k ≡ number e → v ≡ cap (getD a (k - 1) 0 + 1 * n) → WithElement a e n (set a (k - 1) v)
-holds-element a e n k v p q h ha = record { ten = length-set a (k - 1) v ∙ ha .ten; each = λ x. go x (ℕ-discrete (number x) k) }
+pub adds-element : (a : List ℕ) (e : Element) (n k v : ℕ) → k ≡ number e → v ≡ cap (getD a (k - 1) 0 + 1 * n) → Adds a (times (one e) n) (set a (k - 1) v)
+adds-element a e n k v p q h ha = record { ten = length-set a (k - 1) v ∙ ha .ten; each = λ x. go x (ℕ-discrete (number x) k) }
   where
     go : (x : Element) → Dec (number x ≡ k) → getD (set a (k - 1) v) (number x - 1) 0 ≡ cap (plus h (times (one e) n) x)
     go x (yes i) =
@@ -79,8 +78,8 @@ module _ {a b sum : List ℕ} {n i : ℕ} (r : Raised a b n sum i) where
     later = λ k l. getD-set-other sum i k v 0 (omega arith) ∙ r .later k (omega arith);
   }
 
-  pub holds-group : 10 ≤ i → WithGroup a b n sum
-  holds-group l h m ha hb = record {
+  pub adds-group : 10 ≤ i → (m : Totals) → Counted b m → Adds a (times m n) sum
+  adds-group l m hb h ha = record {
     ten = r .size ∙ ha .ten;
     each = λ e. r .each (ha .ten) (number e - 1) (omega (arith, number-from e, number-to e)) ∙ rw (ha .each, hb .each) (omega (arith, cap-factor (h e) (m e) n));
   }

@@ -1,100 +1,129 @@
 -- The reader finds every formula of the grammar, with its totals.
-use mathlib.Core.Path.{_≡_, refl, sym, ap, _∙_, subst, fun-ext}
-use mathlib.Core.Bool.{Bool, true, false, cond}
-use mathlib.Core.Logic.{inl, inr}
+use mathlib.Core.Path.{_≡_, refl, sym, ap, _∙_}
+use mathlib.Core.Bool.{true, false}
 use mathlib.Core.List.{List, [], _∷_, _++_, append-assoc, append-nil}
-use Prim.Native.Nat.{ℕ, _<_}
+use Prim.Native.Nat.{ℕ, zero, suc, _≤_, _<_}
 use native.Mathlib.Omega.{arith}
-use native.Mathlib.Nat.{add-assoc}
+use native.Mathlib.Decide.{decLt}
 use lib.Dec.{eqb}
-use borrow.Author.Tests.{ne-eqb}
-use Rattle.formula.specs.declared.Element.{Element}
-use Rattle.formula.specs.declared.Element.the-variants.{Carbon, Hydrogen, Oxygen, Nitrogen, Sulfur, Phosphorus, Fluorine, Chlorine, Bromine, Silicon}
-use Rattle.formula.specs.declared.read.Symbol.the-variants.{One, Two}
-use Rattle.formula.specs.Elements.{symbol, Totals, one, times, plus}
-use Rattle.formula.specs.Grammar.{Count, digits, value, Formula, last, next, Item, element, group, text, itemText, totals, itemTotals}
-use Rattle.formula.specs.Reader.{Result, ok, stuck, at, ends, adding, then, closing, counting, symbolic, symbolOf, readElement, readItem, readItems}
-use Rattle.formula.proofs.Counts.{Out, count-read, count-low, counting-is}
-use Rattle.formula.proofs.Symbols.{lettered}
+use lib.ListN.{length, length-append}
+use lib.Seq.{drop-append-seam}
+use borrow.Author.Tests.{eqb-true, ne-eqb}
+use Rattle.text.specs.Decimal.{digitFrom}
+use Rattle.text.specs.Reader.{at, ok}
+use Rattle.text.proofs.Decimals.{decimal-one, decimal-two, decimal-three, digit-below, digit-above}
+use Rattle.elements.specs.declared.Element.{Element}
+use Rattle.elements.specs.declared.Element.the-variants.{Carbon, Hydrogen, Oxygen, Nitrogen, Sulfur, Phosphorus, Fluorine, Chlorine, Bromine, Silicon}
+use Rattle.elements.specs.Elements.{symbol, one}
+use Rattle.elements.proofs.Elements.{Letters, one as one-letter, two as two-letters, letters}
+use Rattle.formula.specs.Grammar.{Count, unwritten, written, digits, Formula, last, next, Item, element, group, text, itemText, totals, itemTotals}
+use Rattle.formula.specs.Reader.{whole, symbolOf, symbolAt, counting, symbolic, ends, plusRead, then, items, closing, readItem, readItems}
+use Rattle.formula.proofs.Counts.{Behind, behind, counting-is}
+use Rattle.formula.proofs.Symbols.{symbol-long}
 use Rattle.formula.proofs.Unfold.{item-other, item-open, then-ends, then-goes}
-use Rattle.formula.proofs.Sound.{sound-item, formula-step}
 
 -- t goes on with neither a digit nor a small letter
 pub record Next (t : List ℕ) : Type 0 where
-  pub digitless : Out 48 (at t 0)
+  pub digitless : digitFrom 48 (at t 0) ≡ false
   pub capital : at t 0 < 97
 
--- a formula begins with a capital letter or a bracket
+-- as it does at the end of the text or of a group
+ends-next : (t : List ℕ) → ends t ≡ true → Next t
+ends-next [] e = record { digitless = digit-below 48 0 (omega arith); capital = omega arith }
+ends-next (b ∷ t) e = let q = eqb-true b 41 e in record { digitless = digit-below 48 b (omega arith); capital = omega arith }
+
+-- and where a formula begins: with a capital letter or a bracket
 pub record Begin (t : List ℕ) : Type 0 where
   pub next : Next t
   pub goes : ends t ≡ false
 
+letter-begins : (a : ℕ) (t : List ℕ) → 65 ≤ a → a ≤ 90 → Begin (a ∷ t)
+letter-begins a t l h = record { next = record { digitless = digit-above 48 a (omega arith); capital = omega arith }; goes = ne-eqb a 41 (λ q. omega arith) }
+
+letters-begin : (w t : List ℕ) → Letters w → Begin (w ++ t)
+letters-begin w t (one-letter a l h) = letter-begins a t l h
+letters-begin w t (two-letters a b l h k) = letter-begins a (b ∷ t) l h
+
 begin-item : {d : ℕ} (i : Item d) (r : List ℕ) → Begin (itemText i ++ r)
-begin-item (element e n) r =
-    let k = lettered e in
-    subst (λ (w : List ℕ). Begin ((w ++ digits n) ++ r)) (sym (k .spelling)) (record {
-      next = record { digitless = inr (k .above); capital = k .capital };
-      goes = ne-eqb (k .first) 41 (λ q. omega (arith, k .above));
-    })
-begin-item (group f n) r = record { next = record { digitless = inl (omega arith); capital = omega arith }; goes = refl }
+begin-item (element e n) r = rw append-assoc (letters-begin (symbol e) (digits n ++ r) (letters e))
+begin-item (group f n) r = record { next = record { digitless = digit-below 48 40 (omega arith); capital = omega arith }; goes = refl }
 
 begin : {d : ℕ} (f : Formula d) (r : List ℕ) → Begin (text f ++ r)
 begin (last i) r = begin-item i r
-begin (next i f) r = subst Begin (sym (append-assoc (itemText i) (text f) r)) (begin-item i (text f ++ r))
+begin (next i f) r = rw append-assoc (begin-item i (text f ++ r))
 
--- the reader of an element finds its symbol
-spelled : (e : Element) (t : List ℕ) → at t 0 < 97 → readElement (symbol e ++ t) ≡ counting (one e) t
-unfolding symbolOf
-spelled Carbon t l = ap (λ (b : Bool). symbolic (67 ∷ t) (cond b (Two Chlorine) (One Carbon))) (ne-eqb (at t 0) 108 (λ q. omega arith))
-spelled Hydrogen t l = refl
-spelled Oxygen t l = refl
-spelled Nitrogen t l = refl
-spelled Sulfur t l = ap (λ (b : Bool). symbolic (83 ∷ t) (cond b (Two Silicon) (One Sulfur))) (ne-eqb (at t 0) 105 (λ q. omega arith))
-spelled Phosphorus t l = refl
-spelled Fluorine t l = refl
-spelled Chlorine t l = refl
-spelled Bromine t l = refl
-spelled Silicon t l = refl
+-- no item is empty
+pub item-long : {d : ℕ} (i : Item d) → 0 < length (itemText i)
+item-long (element e n) = omega (arith, length-append (symbol e) (digits n), symbol-long e)
+item-long (group f n) = omega arith
 
-read-element : (d : ℕ) (e : Element) (n : Count) (r : List ℕ) → Next r → readItem d ((symbol e ++ digits n) ++ r) ≡ ok (times (one e) (value n)) r
-read-element d e n r k =
-    item-other d ((symbol e ++ digits n) ++ r) (subst (λ (w : List ℕ). eqb (at ((w ++ digits n) ++ r) 0) 40 ≡ false) (sym (lettered e .spelling)) (ne-eqb (lettered e .first) 40 (λ q. omega (arith, lettered e .above))))
-    ∙ ap readElement (append-assoc (symbol e) (digits n) r)
-    ∙ spelled e (digits n ++ r) (count-low n r (k .capital))
-    ∙ counting-is (one e) n r (count-read n r (k .digitless))
+-- R MAY STAND BEHIND AN ITEM: the reader reads the item and goes no further
+abbrev pub Follows : {d : ℕ} → Item d → List ℕ → Type 0
+Follows (element e n) r = (symbolAt (symbol e ++ (digits n ++ r)) ≡ whole e) × Behind n (at r 0)
+Follows (group f n) r = Behind n (at r 0)
 
--- totals in any grouping
-adding-twice : (m n : Totals) (x : Result) → adding m (adding n x) ≡ adding (plus m n) x
-adding-twice m n (ok h t) = ap (λ (f : Totals). ok f t) (fun-ext λ e. sym (add-assoc (m e) (n e) (h e)))
-adding-twice m n (stuck t) = refl
-
-adding-then : (rest : List ℕ → Result) (m n : Totals) (r : List ℕ) → adding m (then rest (ok n r)) ≡ then rest (ok (plus m n) r)
-adding-then rest m n r = go (ends r) refl
+-- a count begins with no letter
+count-low : (c : Count) (r : List ℕ) → at r 0 < 97 → at (digits c ++ r) 0 < 97
+count-low unwritten r l = l
+count-low (written n p q) r l = go (decLt n 10) (decLt n 100)
   where
-    go : (b : Bool) → ends r ≡ b → adding m (then rest (ok n r)) ≡ then rest (ok (plus m n) r)
-    go true e = ap (adding m) (then-ends rest n r e) ∙ sym (then-ends rest (plus m n) r e)
-    go false e = ap (adding m) (then-goes rest n r e) ∙ adding-twice m n (rest r) ∙ sym (then-goes rest (plus m n) r e)
+    go : Dec (n < 10) → Dec (n < 100) → at (digits (written n p q) ++ r) 0 < 97
+    go (yes h) d = rw (decimal-one n h) (omega arith)
+    go (no h) (yes k) = rw (decimal-two n (omega arith) k) (omega arith)
+    go (no h) (no k) = rw (decimal-three n (omega arith) (omega arith)) (omega arith)
 
--- the reader goes through an item, and through a formula and on behind it
+alone : (e : Element) (t : List ℕ) → at t 0 < 97 → symbolAt (symbol e ++ t) ≡ whole e
+unfolding symbolOf
+alone Carbon t l = rw (ne-eqb (at t 0) 108 (λ q. omega arith))
+alone Hydrogen t l = refl
+alone Oxygen t l = refl
+alone Nitrogen t l = refl
+alone Sulfur t l = rw (ne-eqb (at t 0) 105 (λ q. omega arith))
+alone Phosphorus t l = refl
+alone Fluorine t l = refl
+alone Chlorine t l = refl
+alone Bromine t l = refl
+alone Silicon t l = refl
+
+next-follows : {d : ℕ} (i : Item d) (r : List ℕ) → Next r → Follows i r
+next-follows (element e n) r k = (alone e (digits n ++ r) (count-low n r (k .capital)), behind n (at r 0) (k .digitless))
+next-follows (group f n) r k = behind n (at r 0) (k .digitless)
+
+-- THE READER goes through an item, and through a formula that ends
+not-open : (w t : List ℕ) → Letters w → eqb (at (w ++ t) 0) 40 ≡ false
+not-open w t (one-letter a l h) = ne-eqb a 40 (λ q. omega arith)
+not-open w t (two-letters a b l h k) = ne-eqb a 40 (λ q. omega arith)
+
 mutual
-  through : {d : ℕ} (f : Formula d) (r : List ℕ) → Next r → readItems d (text f ++ r) ≡ then (readItems d) (ok (totals f) r)
-  through {d} (last i) r k = formula-step d (sound-item d) (itemText i ++ r) ∙ ap (then (readItems d)) (through-item i r k)
-  through {d} (next i f) r k =
-      ap (readItems d) (append-assoc (itemText i) (text f) r)
-      ∙ formula-step d (sound-item d) (itemText i ++ (text f ++ r))
-      ∙ ap (then (readItems d)) (through-item i (text f ++ r) (begin f r .next))
-      ∙ then-goes (readItems d) (itemTotals i) (text f ++ r) (begin f r .goes)
-      ∙ ap (adding (itemTotals i)) (through f r k)
-      ∙ adding-then (readItems d) (itemTotals i) (totals f) r
+  unfolding readItems
 
-  through-item : {d : ℕ} (i : Item d) (r : List ℕ) → Next r → readItem d (itemText i ++ r) ≡ ok (itemTotals i) r
-  through-item {d} (element e n) r k = read-element d e n r k
-  through-item (group {d = c} f n) r k =
+  read-formula : {d : ℕ} (f : Formula d) (r : List ℕ) → ends r ≡ true → (k : ℕ) → length (text f) ≤ k → items (readItem d) k (text f ++ r) ≡ ok (totals f) r
+  read-formula (last i) r e zero l = absurd (omega (arith, item-long i))
+  read-formula {d} (last i) r e (suc k) l = ap (then (items (readItem d) k)) (read-item i r (next-follows i r (ends-next r e))) ∙ then-ends (items (readItem d) k) (itemTotals i) r e
+  read-formula (next i f) r e zero l = absurd (omega (arith, item-long i, length-append (itemText i) (text f)))
+  read-formula {d} (next i f) r e (suc k) l =
+      ap (items (readItem d) (suc k)) (append-assoc (itemText i) (text f) r)
+      ∙ ap (then (items (readItem d) k)) (read-item i (text f ++ r) (next-follows i (text f ++ r) (begin f r .next)))
+      ∙ then-goes (items (readItem d) k) (itemTotals i) (text f ++ r) (begin f r .goes)
+      ∙ ap (plusRead (itemTotals i)) (read-formula f r e k (omega (arith, item-long i, length-append (itemText i) (text f))))
+
+  pub read-item : {d : ℕ} (i : Item d) (r : List ℕ) → Follows i r → readItem d (itemText i ++ r) ≡ ok (itemTotals i) r
+  read-item {d} (element e n) r (k, h) =
+      ap (readItem d) (append-assoc (symbol e) (digits n) r)
+      ∙ item-other d (symbol e ++ (digits n ++ r)) (not-open (symbol e) (digits n ++ r) (letters e))
+      ∙ ap (symbolic (symbol e ++ (digits n ++ r))) k
+      ∙ ap (counting (one e)) (drop-append-seam (symbol e) (digits n ++ r))
+      ∙ counting-is (one e) n r h
+  read-item (group {d = c} f n) r h =
       item-open c (40 ∷ ((text f ++ 41 ∷ digits n) ++ r)) refl
       ∙ ap (λ (w : List ℕ). closing (readItems c w)) (append-assoc (text f) (41 ∷ digits n) r)
-      ∙ ap closing (through f (41 ∷ (digits n ++ r)) (record { digitless = inl (omega arith); capital = omega arith }))
-      ∙ counting-is (totals f) n r (count-read n r (k .digitless))
+      ∙ ap closing (read-formula f (41 ∷ (digits n ++ r)) refl (suc (length (text f ++ 41 ∷ (digits n ++ r)))) (omega (arith, length-append (text f) (41 ∷ (digits n ++ r)))))
+      ∙ counting-is (totals f) n r h
 
--- a formula is read whole
+pub read-items : {d : ℕ} (f : Formula d) (r : List ℕ) → ends r ≡ true → readItems d (text f ++ r) ≡ ok (totals f) r
+unfolding readItems
+read-items f r e = read-formula f r e (suc (length (text f ++ r))) (omega (arith, length-append (text f) r))
+
+-- and through a whole one
 pub complete : {d : ℕ} (f : Formula d) → readItems d (text f) ≡ ok (totals f) []
-complete {d} f = ap (readItems d) (sym (append-nil (text f))) ∙ through f [] (record { digitless = inl (omega arith); capital = omega arith })
+complete {d} f = ap (readItems d) (sym (append-nil (text f))) ∙ read-items f [] refl

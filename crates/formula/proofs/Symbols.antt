@@ -1,116 +1,98 @@
 -- The symbols: what the reader of two bytes finds is a symbol's text.
-use mathlib.Core.Path.{_≡_, refl, sym, ap, _∙_, subst}
-use mathlib.Core.Bool.{Bool, true, false, cond}
-use mathlib.Core.List.{List, [], _∷_}
-use Prim.Native.Nat.{ℕ, _<_}
+use mathlib.Core.Path.{_≡_, refl, ap}
+use mathlib.Core.Bool.{Bool, true}
+use mathlib.Core.List.{List, [], _∷_, _++_}
+use mathlib.Core.Option.{Option, some, none, Option·none-ne-some, Option·some-ne-none}
+use Prim.Native.Nat.{ℕ, _≤_, _<_}
 use native.Mathlib.Omega.{arith}
-use native.Mathlib.Decide.{decLt}
 use lib.Dec.{eqb}
-use lib.ListN.{length, getD, List·getD-eq-default}
-use borrow.Author.Tests.{eqb-true}
-use Rattle.formula.specs.declared.Element.{Element}
-use Rattle.formula.specs.declared.Element.the-variants.{Carbon, Hydrogen, Oxygen, Nitrogen, Sulfur, Phosphorus, Fluorine, Chlorine, Bromine, Silicon}
-use Rattle.formula.specs.declared.read.Symbol.{Symbol}
-use Rattle.formula.specs.declared.read.Symbol.the-variants.{One, Two, Half, Nothing}
-use Rattle.formula.specs.Elements.{symbol}
-use Rattle.formula.specs.Reader.{Letter, alone, either, only, unknown, letter, follow, symbolOf}
+use lib.ListN.{length, drop}
+use borrow.Author.Tests.{eqb-true, eq-eqb}
+use Rattle.answer.proofs.Tests.{choose, fails-by}
+use Rattle.text.specs.Bytes.{same}
+use Rattle.text.specs.Reader.{at}
+use Rattle.text.proofs.Readers.{same-eq}
+use Rattle.elements.specs.declared.Element.{Element}
+use Rattle.elements.specs.Elements.{elements, symbol}
+use Rattle.elements.proofs.Elements.{Letters, one, two, letters}
+use Rattle.formula.specs.Reader.{find, withSymbol, withLetter, Symbol, whole, half, absent, symbolBy, symbolOf, symbolAt}
 
--- a choice has what each of its sides has under its test
-pub choose : {A : Type 0} (Q : A → Type 0) (x : Bool) {u v : A} → (x ≡ true → Q u) → (x ≡ false → Q v) → Q (cond x u v)
-choose Q true p q = p refl
-choose Q false p q = q refl
+-- THE SEARCH: what it finds passes the test; where it finds none, it finds none by a stronger test
+find-passes : (test : Element → Bool) (es : List Element) (e : Element) → find test es ≡ some e → test e ≡ true
+find-passes test [] e = λ q. absurd (Option·none-ne-some e q)
+find-passes test (f ∷ es) e = choose (λ (o : Option Element). o ≡ some e → test e ≡ true) (test f) (λ h q. let p : f ≡ e = cc in rw p at h) (λ h. find-passes test es e)
 
--- what the letter b stands for is as the symbols' texts have it
-Spelt : ℕ → Letter → Type 0
-Spelt b (alone e) = symbol e ≡ b ∷ []
-Spelt b (either e x f) = (symbol e ≡ b ∷ []) × (symbol f ≡ b ∷ x ∷ [])
-Spelt b (only x f) = symbol f ≡ b ∷ x ∷ []
-Spelt b unknown = Unit {0}
+find-fails : (f g : Element → Bool) → ((e : Element) → f e ≡ true → g e ≡ true) → (es : List Element) → find g es ≡ none → find f es ≡ none
+find-fails f g h [] = λ q. refl
+find-fails f g h (e ∷ es) =
+    choose (λ (o : Option Element). o ≡ none → find f (e ∷ es) ≡ none) (g e)
+    (λ p q. absurd (Option·some-ne-none e q)) (λ p q. rw (fails-by (f e) (g e) (h e) p) (find-fails f g h es q))
 
-spelt : (b : ℕ) → Spelt b (letter b)
-unfolding Spelt
-spelt b =
-    choose (Spelt b) (eqb b 67) (λ p. let q = eqb-true b 67 p in (cc, cc)) λ _.
-    choose (Spelt b) (eqb b 72) (λ p. let q = eqb-true b 72 p in cc) λ _.
-    choose (Spelt b) (eqb b 79) (λ p. let q = eqb-true b 79 p in cc) λ _.
-    choose (Spelt b) (eqb b 78) (λ p. let q = eqb-true b 78 p in cc) λ _.
-    choose (Spelt b) (eqb b 83) (λ p. let q = eqb-true b 83 p in (cc, cc)) λ _.
-    choose (Spelt b) (eqb b 80) (λ p. let q = eqb-true b 80 p in cc) λ _.
-    choose (Spelt b) (eqb b 70) (λ p. let q = eqb-true b 70 p in cc) λ _.
-    choose (Spelt b) (eqb b 66) (λ p. let q = eqb-true b 66 p in cc) λ _. tt
+pub symbol-is : (s : List ℕ) (e : Element) → withSymbol s ≡ some e → s ≡ symbol e
+symbol-is s e q = same-eq s (symbol e) (find-passes (λ f. same s (symbol f)) elements e q)
 
-unfoldable pub Shown : ℕ → ℕ → Symbol → Type 0
-Shown b c (One e) = symbol e ≡ b ∷ []
-Shown b c (Two e) = symbol e ≡ b ∷ c ∷ []
-Shown b c Half = (e : Element) × (x : ℕ) × (symbol e ≡ b ∷ x ∷ [])
-Shown b c Nothing = Unit {0}
+-- LETTERS
+pub first-letter : (w : List ℕ) → Letters w → (65 ≤ at w 0) × (at w 0 ≤ 90)
+first-letter w (one a l h) = (l, h)
+first-letter w (two a b l h k) = (l, h)
 
-followed : (b c : ℕ) (l : Letter) → Spelt b l → Shown b c (follow l c)
-unfolding Spelt Shown
-followed b c (alone e) p = p
-followed b c (either e x f) p = choose (Shown b c) (eqb c x) (λ q. let r = eqb-true c x q in p .1 ∙ cc) (λ _. p .0)
-followed b c (only x f) p = choose (Shown b c) (eqb c x) (λ q. let r = eqb-true c x q in p ∙ cc) (λ _. (f, x, p))
-followed b c unknown p = tt
-
-pub shown : (b c : ℕ) → Shown b c (symbolOf b c)
-unfolding symbolOf
-shown b c = followed b c (letter b) (spelt b)
-
--- a symbol is a capital letter and at most one small one
-pub record Lettered (e : Element) : Type 0 where
-  pub first : ℕ
-  pub rest : List ℕ
-  pub spelling : symbol e ≡ first ∷ rest
-  pub above : 57 < first
-  pub capital : first < 97
-  pub small : 0 < getD (symbol e) 1 97
-
-pub lettered : (e : Element) → Lettered e
-lettered Carbon = record { first = 67; rest = []; spelling = refl; above = omega arith; capital = omega arith; small = omega arith }
-lettered Hydrogen = record { first = 72; rest = []; spelling = refl; above = omega arith; capital = omega arith; small = omega arith }
-lettered Oxygen = record { first = 79; rest = []; spelling = refl; above = omega arith; capital = omega arith; small = omega arith }
-lettered Nitrogen = record { first = 78; rest = []; spelling = refl; above = omega arith; capital = omega arith; small = omega arith }
-lettered Sulfur = record { first = 83; rest = []; spelling = refl; above = omega arith; capital = omega arith; small = omega arith }
-lettered Phosphorus = record { first = 80; rest = []; spelling = refl; above = omega arith; capital = omega arith; small = omega arith }
-lettered Fluorine = record { first = 70; rest = []; spelling = refl; above = omega arith; capital = omega arith; small = omega arith }
-lettered Chlorine = record { first = 67; rest = 108 ∷ []; spelling = refl; above = omega arith; capital = omega arith; small = omega arith }
-lettered Bromine = record { first = 66; rest = 114 ∷ []; spelling = refl; above = omega arith; capital = omega arith; small = omega arith }
-lettered Silicon = record { first = 83; rest = 105 ∷ []; spelling = refl; above = omega arith; capital = omega arith; small = omega arith }
-
-pub symbol-pos : (e : Element) (b : ℕ) (t : List ℕ) → symbol e ≡ b ∷ t → 0 < b
-symbol-pos e b t p = omega (arith, lettered e .above, ap (λ (l : List ℕ). getD l 0 0) (sym (lettered e .spelling) ∙ p))
-
-pub symbol-pos-2 : (e : Element) (b c : ℕ) → symbol e ≡ b ∷ c ∷ [] → 0 < c
-symbol-pos-2 e b c p = subst (λ (x : ℕ). 0 < x) (ap (λ (l : List ℕ). getD l 1 97) p) (lettered e .small)
-
--- where a byte is not 0, the text goes on
-pub inside : (s : List ℕ) (p : ℕ) → 0 < getD s p 0 → p < length s
-inside s p l = go (decLt p (length s))
+pub symbol-long : (e : Element) → 0 < length (symbol e)
+symbol-long e = go (symbol e) (letters e)
   where
-    go : Dec (p < length s) → p < length s
-    go (yes h) = h
-    go (no h) = absurd (omega (arith, List·getD-eq-default s 0 {n = p} (omega arith)))
+    go : (w : List ℕ) → Letters w → 0 < length w
+    go w (one a l h) = omega arith
+    go w (two a b l h k) = omega arith
 
--- that a byte begins no symbol does not hang on the next one
-pub nothing-any : (b c d : ℕ) → symbolOf b c ≡ Nothing → symbolOf b d ≡ Nothing
+second-letter : (w : List ℕ) → Letters w → 2 ≤ length w → 97 ≤ at w 1
+second-letter w (one a l h) q = absurd (omega arith)
+second-letter w (two a b l h k) q = k
+
+-- a text that begins with the letters of w
+one-byte : (t w : List ℕ) → Letters w → at t 0 ∷ [] ≡ w → t ≡ w ++ drop (length w) t
+one-byte [] w k p = absurd (omega (arith, first-letter w k .0, ap (λ (l : List ℕ). at l 0) p))
+one-byte (b ∷ t) w k p = rw (← p)
+
+two-bytes : (t w : List ℕ) → Letters w → at t 0 ∷ at t 1 ∷ [] ≡ w → t ≡ w ++ drop (length w) t
+two-bytes [] w k p = absurd (omega (arith, second-letter w k (omega (arith, ap length p)), ap (λ (l : List ℕ). at l 1) p))
+two-bytes (b ∷ []) w k p = absurd (omega (arith, second-letter w k (omega (arith, ap length p)), ap (λ (l : List ℕ). at l 1) p))
+two-bytes (b ∷ c ∷ t) w k p = rw (← p)
+
+from-first : (w : List ℕ) → Letters w → w ≡ at w 0 ∷ drop 1 w
+from-first w (one a l h) = refl
+from-first w (two a b l h k) = refl
+
+-- A TEXT by the symbol at its head: that of an element, half of one, or none
+abbrev pub Headed : List ℕ → Symbol → Type 0
+Headed t (whole e) = t ≡ symbol e ++ drop (length (symbol e)) t
+Headed t half = (e : Element) × (x : List ℕ) × (symbol e ≡ at t 0 ∷ x)
+Headed t absent = Unit {0}
+
+pub headed : (t : List ℕ) → Headed t (symbolAt t)
 unfolding symbolOf
-nothing-any b c d q = go (letter b) q
+headed t = go (withSymbol (at t 0 ∷ at t 1 ∷ [])) (withSymbol (at t 0 ∷ [])) (withLetter (at t 0)) refl refl refl
   where
-    never : (x : Bool) (u v : Symbol) → (u ≡ Nothing → ⊥) → (v ≡ Nothing → ⊥) → cond x u v ≡ Nothing → ⊥
-    never true u v p q e = p e
-    never false u v p q e = q e
+    go : (x y z : Option Element) → withSymbol (at t 0 ∷ at t 1 ∷ []) ≡ x → withSymbol (at t 0 ∷ []) ≡ y → withLetter (at t 0) ≡ z → Headed t (symbolBy x y z)
+    go (some e) y z p q r = two-bytes t (symbol e) (letters e) (symbol-is (at t 0 ∷ at t 1 ∷ []) e p)
+    go none (some e) z p q r = one-byte t (symbol e) (letters e) (symbol-is (at t 0 ∷ []) e q)
+    go none none (some e) p q r =
+        let first = eqb-true (at t 0) (at (symbol e) 0) (find-passes (λ f. eqb (at t 0) (at (symbol f) 0)) elements e r) in
+        (e, drop 1 (symbol e), rw first (from-first (symbol e) (letters e)))
+    go none none none p q r = tt
 
-    no-one : (e : Element) → One e ≡ Nothing → ⊥
-    no-one e p = let n : _≡_ {A = ℕ} 0 1 = cc in omega arith
+-- behind a symbol only the next byte matters, and behind no symbol none does
+pub symbol-same : (w t u : List ℕ) → Letters w → at t 0 ≡ at u 0 → symbolAt (w ++ t) ≡ symbolAt (w ++ u)
+symbol-same w t u (one a l h) e = ap (symbolOf a) e
+symbol-same w t u (two a b l h k) e = refl
 
-    no-two : (e : Element) → Two e ≡ Nothing → ⊥
-    no-two e p = let n : _≡_ {A = ℕ} 0 1 = cc in omega arith
+no-letter : (x y z : Option Element) → symbolBy x y z ≡ absent → z ≡ none
+no-letter (some e) y z q = cc
+no-letter none (some e) z q = cc
+no-letter none none (some e) q = cc
+no-letter none none none q = refl
 
-    no-half : Half ≡ Nothing → ⊥
-    no-half p = let n : _≡_ {A = ℕ} 0 1 = cc in omega arith
-
-    go : (l : Letter) → follow l c ≡ Nothing → follow l d ≡ Nothing
-    go (alone e) p = absurd (no-one e p)
-    go (either e x f) p = absurd (never (eqb c x) (Two f) (One e) (no-two f) (no-one e) p)
-    go (only x f) p = absurd (never (eqb c x) (Two f) Half (no-two f) no-half p)
-    go unknown p = refl
+pub absent-any : (b c d : ℕ) → symbolOf b c ≡ absent → symbolOf b d ≡ absent
+unfolding symbolOf
+absent-any b c d q =
+    let n = no-letter (withSymbol (b ∷ c ∷ [])) (withSymbol (b ∷ [])) (withLetter b) q in
+    let lone : (w : List ℕ) → withSymbol (b ∷ w) ≡ none = λ w. find-fails _ _ (λ e p. eq-eqb b _ (ap (λ (l : List ℕ). at l 0) (same-eq (b ∷ w) (symbol e) p))) elements n in
+    rw (lone (d ∷ []), lone [], n)

@@ -4,8 +4,8 @@ use mathlib.Core.List.{List, [], _++_}
 use Prim.Native.Nat.{ℕ, suc, _≤_}
 use Rattle.text.specs.Bytes.{bytes}
 use Rattle.text.specs.Decimal.{decimal}
-use Rattle.formula.specs.declared.Element.{Element}
-use Rattle.formula.specs.Elements.{symbol, Totals, one, plus, times}
+use Rattle.elements.specs.declared.Element.{Element}
+use Rattle.elements.specs.Elements.{symbol, Totals, one, plus, times}
 
 -- an optional count: 1 to 999 in decimal digits, which have no leading zero; without one it is 1
 pub data Count : Type 0 where

@@ -1,48 +1,38 @@
 -- The answer to a formula text: by the reader, and by the grammar (document 01, "Formula text" and refusals 1 and 2).
 use mathlib.Core.Path.{_≡_}
-use mathlib.Core.List.{List, [], _∷_}
-use mathlib.Core.Option.{Option, some, none}
-use Prim.Native.Nat.{ℕ, _-_, _≤_, _<_}
+use mathlib.Core.List.{List}
+use Prim.Native.Nat.{ℕ, _≤_, _<_}
 use lib.Dec.{ltb}
 use lib.ListN.{length}
-use Rattle.refusal.specs.Numbers.{noFormula, countTooLarge}
-use Rattle.refusal.specs.Outcome.{Outcome, refused, answered, refusal, refuse, refuseAt, refusalOf, valueOf, andThen}
+use Rattle.answer.specs.Numbers.{noFormula, countTooLarge}
+use Rattle.answer.specs.Outcome.{Outcome, refused, answered, refusal, refuse, refuseAt, refusalOf, valueOf, andThen}
 use Rattle.text.specs.Beginning.{LongestBeginning}
-use Rattle.formula.specs.declared.Element.{Element}
-use Rattle.formula.specs.declared.Atoms.{Atoms}
+use Rattle.text.specs.Reader.{Result, leftAt, valueRead}
+use Rattle.elements.specs.declared.Element.{Element}
+use Rattle.elements.specs.declared.Atoms.{Atoms}
 use Rattle.formula.specs.declared.FormulaRead.{FormulaRead}
-use Rattle.formula.specs.Elements.{Totals, number, nothing, atoms, each, firstAbove}
+use Rattle.elements.specs.Elements.{Totals, number, nothing, atoms, each, firstAbove}
 use Rattle.formula.specs.Grammar.{Formula, totals, Reads, FormulaText}
-use Rattle.formula.specs.Reader.{Result, ok, stuck, readItems}
+use Rattle.formula.specs.Reader.{readItems}
 
 -- an outcome as it is answered: with a refusal all counts are 0
-abbrev pub shown : Outcome Atoms → FormulaRead
-shown o = record { refusal = refusalOf o; atoms = valueOf (each 0) o }
-
--- where a text of n bytes is left before its end, if it is
-abbrev pub leftAt : ℕ → Result → Option ℕ
-leftAt n (ok m []) = none
-leftAt n (ok m (b ∷ t)) = some (n - length (b ∷ t))
-leftAt n (stuck t) = some (n - length t)
-
-abbrev pub readTotals : Result → Totals
-readTotals (ok m t) = m
-readTotals (stuck t) = nothing
+abbrev pub shownFormula : Outcome Atoms → FormulaRead
+shownFormula o = record { refusal = refusalOf o; atoms = valueOf (each 0) o }
 
 -- at most 200 atoms of each element
 abbrev pub atMost200 : Atoms → Outcome Atoms
 atMost200 a = refuseAt countTooLarge (firstAbove (each 200) a) (answered a)
 
 -- what a text of n bytes in which r was read comes to
-abbrev pub judged : ℕ → Result → Outcome Atoms
-judged n r = refuseAt noFormula (leftAt n r) (atMost200 (atoms (readTotals r)))
+abbrev pub judged : ℕ → Result Totals → Outcome Atoms
+judged n r = refuseAt noFormula (leftAt n r) (atMost200 (atoms (valueRead nothing r)))
 
 -- at most 256 bytes
 unfoldable pub reading : List ℕ → Outcome Atoms
 reading t = refuse noFormula 256 (ltb 256 (length t)) (judged (length t) (readItems 8 t))
 
 unfoldable pub formulaRead : List ℕ → FormulaRead
-formulaRead t = shown (reading t)
+formulaRead t = shownFormula (reading t)
 
 -- a question about counts, asked of a formula text: the reader's refusals first
 abbrev pub ofText : {B : Type 0} → (Atoms → Outcome B) → List ℕ → Outcome B
@@ -65,4 +55,4 @@ pub record ByGrammar (t : List ℕ) (r : FormulaRead) : Type 0 where
   pub outcome : Outcome Atoms
   pub right : Outcomes t outcome
   pub only : (o : Outcome Atoms) → Outcomes t o → o ≡ outcome
-  pub answer : r ≡ shown outcome
+  pub answer : r ≡ shownFormula outcome

@@ -2,24 +2,28 @@
 ghost use mathlib.Core.Path.{_≡_};
 ghost use mathlib.Core.List.{List, [], _∷_};
 ghost use mathlib.Core.Option.{some, none};
-ghost use Rattle.refusal.specs.Outcome.{shownFigure};
+ghost use Prim.Native.Nat.{_≤_};
+ghost use Rattle.answer.specs.Outcome.{shownFigure};
 ghost use Rattle.formula.specs.Reading.{formulaRead, ByGrammar, ofText};
-ghost use Rattle.formula.specs.Writing.{formulaWritten, roomAfter};
-ghost use Rattle.formula.specs.RoundTrip.{RoundTrip};
+ghost use Rattle.hill.specs.Writing.{formulaWritten, roomAfter};
+ghost use Rattle.hill.specs.RoundTrip.{RoundTrip};
 ghost use Rattle.oxygen.specs.Admission.{oxygenCoefficient};
 ghost use Rattle.oxygen.specs.Stoichiometric.{stoichiometricFraction};
 ghost use Rattle.blend.specs.Fuel.{text as fuel-text};
-ghost use Rattle.blend.specs.Blend.{holding, emptyBlend, adding, joining, asking, shownBlend, shownLimits};
+ghost use Rattle.blend.specs.Blend.{blend as blend-of, emptyBlend, adding, joining, limits as asked-limits, asking, shownBlend, shownLimits};
 ghost use Rattle.blend.specs.Calls.{Call};
 ghost use Rattle.blend.specs.Claims.{Claims};
 ghost use Rattle.limits.specs.FuelLimits.{fuelLimits, AsBlend};
 ghost use Rattle.limits.specs.Concentration.{massConcentration};
+use answer::Figure;
+use answer::figure_unless;
 use blend::Blend;
 use blend::Blended;
 use blend::Limits;
-use formula::Atoms;
+use blend::limits_unless;
+use elements::Atoms;
 use formula::FormulaRead;
-use refusal::Figure;
+use formula::read_formula;
 use text::Written;
 
 #[no_mangle]
@@ -27,7 +31,7 @@ pub extern "C" fn jlw_read_formula(text: &[u8]) -> FormulaRead
     ensures { λ r. ⌜ r ≡ formulaRead (now (text .entry)) ⌝ }
     ensures grammar { λ r. ⌜ ByGrammar (now (text .entry)) r ⌝ }
 {
-    formula::read_formula(text)
+    read_formula(text)
 }
 
 #[no_mangle]
@@ -48,7 +52,7 @@ pub extern "C" fn jlw_write_formula(
     ensures room { λ r. ⌜ now (out .exit) ≡ roomAfter (record { count = c ∷ h ∷ o ∷ n ∷ s ∷ p ∷ f ∷ cl ∷ br ∷ si ∷ [] }) (now (out .entry)) ⌝ }
     ensures round_trip { λ _. ⌜ RoundTrip ⌝ }
 {
-    formula::write_formula(
+    hill::write_formula(
         Atoms {
             count: [c, h, o, n, s, p, f, cl, br, si],
         },
@@ -61,7 +65,9 @@ pub extern "C" fn jlw_write_formula(
 pub extern "C" fn jlw_oxygen_coefficient(text: &[u8]) -> Figure
     ensures { λ r. ⌜ r ≡ shownFigure (ofText oxygenCoefficient (now (text .entry))) ⌝ }
 {
-    oxygen::oxygen_coefficient_of_text(text)
+    let read = read_formula(text);
+    let fuel = read.atoms;
+    figure_unless(read.refusal, oxygen::oxygen_coefficient(fuel))
 }
 
 // In hundredths of a percent.
@@ -69,31 +75,41 @@ pub extern "C" fn jlw_oxygen_coefficient(text: &[u8]) -> Figure
 pub extern "C" fn jlw_stoichiometric_fraction(text: &[u8]) -> Figure
     ensures { λ r. ⌜ r ≡ shownFigure (ofText stoichiometricFraction (now (text .entry))) ⌝ }
 {
-    oxygen::stoichiometric_fraction_of_text(text)
+    let read = read_formula(text);
+    let fuel = read.atoms;
+    figure_unless(read.refusal, oxygen::stoichiometric_fraction(fuel))
 }
 
 #[no_mangle]
 pub extern "C" fn jlw_fuel_limits(text: &[u8]) -> Limits
-    ensures { λ r. ⌜ r ≡ shownLimits (fuelLimits (fuel-text (now (text .entry))) none) ⌝ }
+    ensures { λ r. ⌜ r ≡ shownLimits (ofText (fuelLimits none) (now (text .entry))) ⌝ }
+    ensures at_most { λ r. ⌜ (r .lower ≤ 10000) × (r .upper ≤ 10000) ⌝ }
     ensures as_blend { λ _. ⌜ AsBlend (fuel-text (now (text .entry))) none ⌝ }
 {
-    limits::fuel_limits_of_text(text)
+    let read = read_formula(text);
+    let fuel = read.atoms;
+    limits_unless(read.refusal, limits::fuel_limits(fuel))
 }
 
 #[no_mangle]
 pub extern "C" fn jlw_fuel_limits_at(text: &[u8], temperature: i64) -> Limits
-    ensures { λ r. ⌜ r ≡ shownLimits (fuelLimits (fuel-text (now (text .entry))) (some temperature)) ⌝ }
+    ensures { λ r. ⌜ r ≡ shownLimits (ofText (fuelLimits (some temperature)) (now (text .entry))) ⌝ }
+    ensures at_most { λ r. ⌜ (r .lower ≤ 10000) × (r .upper ≤ 10000) ⌝ }
     ensures as_blend { λ _. ⌜ AsBlend (fuel-text (now (text .entry))) (some temperature) ⌝ }
 {
-    limits::fuel_limits_of_text_at(text, temperature)
+    let read = read_formula(text);
+    let fuel = read.atoms;
+    limits_unless(read.refusal, limits::fuel_limits_at(fuel, temperature))
 }
 
 // In 0.01 g/m³.
 #[no_mangle]
 pub extern "C" fn jlw_mass_concentration(text: &[u8], temperature: i64) -> Limits
-    ensures { λ r. ⌜ r ≡ shownLimits (massConcentration (fuel-text (now (text .entry))) temperature) ⌝ }
+    ensures { λ r. ⌜ r ≡ shownLimits (ofText (massConcentration temperature) (now (text .entry))) ⌝ }
 {
-    limits::mass_concentration_of_text(text, temperature)
+    let read = read_formula(text);
+    let fuel = read.atoms;
+    limits_unless(read.refusal, limits::mass_concentration(fuel, temperature))
 }
 
 #[no_mangle]
@@ -112,7 +128,7 @@ pub extern "C" fn jlw_add_fuel(
     text: &[u8],
     parts: u64,
 ) -> Blended
-    ensures { λ r. ⌜ r ≡ shownBlend (holding total lower upper) (adding (holding total lower upper) (fuel-text (now (text .entry))) parts) ⌝ }
+    ensures { λ r. ⌜ r ≡ shownBlend (blend-of total lower upper) (adding (blend-of total lower upper) (fuel-text (now (text .entry))) parts) ⌝ }
 {
     blend::add_fuel_text(
         Blend {
@@ -134,7 +150,7 @@ pub extern "C" fn jlw_join_blends(
     other_lower: u64,
     other_upper: u64,
 ) -> Blended
-    ensures { λ r. ⌜ r ≡ shownBlend (holding total lower upper) (joining (holding total lower upper) (holding «other_total» «other_lower» «other_upper»)) ⌝ }
+    ensures { λ r. ⌜ r ≡ shownBlend (blend-of total lower upper) (joining (blend-of total lower upper) (blend-of «other_total» «other_lower» «other_upper»)) ⌝ }
 {
     let first = Blend {
         total,
@@ -151,7 +167,8 @@ pub extern "C" fn jlw_join_blends(
 
 #[no_mangle]
 pub extern "C" fn jlw_blend_limits(total: u64, lower: u64, upper: u64) -> Limits
-    ensures { λ r. ⌜ r ≡ shownLimits (asking (holding total lower upper) none) ⌝ }
+    ensures { λ r. ⌜ r ≡ shownLimits (asking (blend-of total lower upper) (asked-limits none)) ⌝ }
+    ensures at_most { λ r. ⌜ (r .lower ≤ 10000) × (r .upper ≤ 10000) ⌝ }
 {
     blend::blend_limits(Blend {
         total,
@@ -167,7 +184,8 @@ pub extern "C" fn jlw_blend_limits_at(
     upper: u64,
     temperature: i64,
 ) -> Limits
-    ensures { λ r. ⌜ r ≡ shownLimits (asking (holding total lower upper) (some temperature)) ⌝ }
+    ensures { λ r. ⌜ r ≡ shownLimits (asking (blend-of total lower upper) (asked-limits (some temperature))) ⌝ }
+    ensures at_most { λ r. ⌜ (r .lower ≤ 10000) × (r .upper ≤ 10000) ⌝ }
 {
     blend::blend_limits_at(
         Blend {

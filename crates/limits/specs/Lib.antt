@@ -1,3 +1,3 @@
 pub mod FuelLimits
 pub mod Concentration
-pub mod Held
+pub mod Internal

@@ -7,13 +7,14 @@ use native.Mathlib.Omega.{arith}
 use borrow.Author.Tests.{lt-ltb, le-ltb}
 use lib.IntN.{ℤ, pos, negℤ, natAbs, _+ℤ_, _-ℤ_, +ℤ-assoc, +ℤ-comm, negℤ-+ℤ}
 use lib.Signed.{ltZ}
-use Rattle.refusal.proofs.Tests.{never}
-use Rattle.formula.specs.declared.Element.the-variants.{Carbon, Hydrogen, Oxygen, Sulfur, Phosphorus, Fluorine, Chlorine, Bromine}
-use Rattle.formula.specs.declared.Atoms.{Atoms}
-use Rattle.formula.specs.Elements.{count}
-use Rattle.formula.specs.Held.{AtMost200}
+use Rattle.answer.proofs.Tests.{never}
+use Rattle.elements.specs.declared.Element.the-variants.{Carbon, Hydrogen, Oxygen, Sulfur, Phosphorus, Fluorine, Chlorine, Bromine}
+use Rattle.elements.specs.declared.Atoms.{Atoms}
+use Rattle.elements.specs.Elements.{count, sumBelow, weightedSum}
+use Rattle.elements.specs.Internal.{AtMost200}
 use Rattle.oxygen.specs.Beta.{halogens, beta}
-use Rattle.oxygen.specs.Held.{gain, loss}
+use Rattle.elements.proofs.Weights.{weighted-few}
+use Rattle.oxygen.specs.Internal.{gain, loss, added, taken}
 
 -- sums of integers in another order
 exchanged : (m k n : ℤ) → m +ℤ k +ℤ n ≡ m +ℤ n +ℤ k
@@ -37,6 +38,14 @@ difference-low n (suc m) h = rw (lt-ltb n (suc m) h)
 
 -- with no count above 200
 module _ (a : Atoms) (few : AtMost200 a) where
+  pub added-is : weightedSum added a ≡ gain a
+  unfolding gain sumBelow
+  added-is = weighted-few added a few ∙ omega arith
+
+  pub taken-is : weightedSum taken a ≡ loss a
+  unfolding loss sumBelow
+  taken-is = weighted-few taken a few ∙ omega arith
+
   pub gain-most : gain a ≤ 3800
   unfolding gain
   gain-most = omega (arith, few .most Carbon, few .most Sulfur, few .most Hydrogen, few .most Phosphorus)

@@ -1,4 +1,3 @@
 pub mod Betas
 pub mod Admissions
 pub mod Stoichiometry
-pub mod Limits

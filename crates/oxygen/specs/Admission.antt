@@ -6,11 +6,11 @@ use Prim.Native.Nat.{ℕ}
 use lib.Dec.{eqb}
 use lib.IntN.{pos, natAbs}
 use lib.Signed.{ltZ}
-use Rattle.refusal.specs.Numbers.{countTooLarge, elementNotAdmitted, oxygenTooLow}
-use Rattle.refusal.specs.Outcome.{Outcome, answered, refuse, refuseAt}
-use Rattle.formula.specs.declared.Element.the-variants.{Carbon}
-use Rattle.formula.specs.declared.Atoms.{Atoms}
-use Rattle.formula.specs.Elements.{number, count, each, firstAbove}
+use Rattle.answer.specs.Numbers.{countTooLarge, elementNotAdmitted, oxygenTooLow}
+use Rattle.answer.specs.Outcome.{Outcome, answered, refuse, refuseAt}
+use Rattle.elements.specs.declared.Element.the-variants.{Carbon}
+use Rattle.elements.specs.declared.Atoms.{Atoms}
+use Rattle.elements.specs.Elements.{number, count, each, firstAbove}
 use Rattle.oxygen.specs.declared.Purpose.{Purpose}
 use Rattle.oxygen.specs.declared.Purpose.the-variants.{OxygenCoefficient, GasLimits, FirePoint}
 use Rattle.oxygen.specs.Beta.{beta}

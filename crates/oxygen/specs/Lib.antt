@@ -1,5 +1,4 @@
 pub mod Beta
 pub mod Admission
 pub mod Stoichiometric
-pub mod Limit
-pub mod Held
+pub mod Internal

@@ -1,24 +1,23 @@
 // The oxygen coefficient of a fuel, which fuels are admitted to what, and the stoichiometric fraction.
 ghost use mathlib.Core.Path.{_≡_};
+ghost use mathlib.Core.Option.{Option·getD};
 ghost use Prim.Native.Nat.{_≤_};
-ghost use Rattle.refusal.specs.Lowest.{orZero};
-ghost use Rattle.refusal.specs.Outcome.{refused, answered, refusal, shownFigure};
-ghost use Rattle.formula.specs.Reading.{ofText};
-ghost use Rattle.formula.specs.Held.{AtMost200};
+ghost use Rattle.answer.specs.Outcome.{shownFigure};
 ghost use Rattle.oxygen.specs.Admission.{most, notAdmitted, admission, oxygenCoefficient};
 ghost use Rattle.oxygen.specs.Stoichiometric.{stoichiometricFraction};
-ghost use Rattle.oxygen.specs.Held.{gain, loss};
-use formula::Atoms;
-use formula::each;
-use formula::first_above;
-use formula::read_formula;
-use refusal::Figure;
-use refusal::Refusal;
-use refusal::refused_figure;
+use answer::Figure;
+use answer::answered_figure;
+use answer::refused_figure;
+use elements::Atoms;
+use elements::each;
+use elements::first_above;
+use elements::weighted_sum;
 use rounding::round_div;
 
-// 25 °C: the temperature at which the limits' formulas were fitted.
-pub const FIT_TEMPERATURE: i64 = 2500;
+// What adds to β and what takes from it, in quarters: C H O N S P F Cl Br Si.
+const ADDED: [u8; 10] = [4, 1, 0, 0, 4, 10, 0, 0, 0, 0];
+
+const TAKEN: [u8; 10] = [0, 0, 2, 0, 0, 0, 1, 1, 1, 0];
 
 // What a fuel is admitted to.
 pub enum Purpose {
@@ -46,39 +45,12 @@ fn most_atoms(purpose: Purpose) -> Atoms
 
 // The number of the lowest element at fault, 0 where there is none.
 fn at_fault(purpose: Purpose, atoms: Atoms) -> u64
-    ensures { λ r. ⌜ r ≡ orZero (notAdmitted purpose atoms) ⌝ }
+    ensures { λ r. ⌜ r ≡ Option·getD (notAdmitted purpose atoms) 0 ⌝ }
 {
     if atoms.count[0] == 0 {
         return 1;
     }
     first_above(most_atoms(purpose), atoms)
-}
-
-// The terms of β in quarters that add, and those that take away.
-fn terms_added(atoms: Atoms) -> u64
-    requires { ⌜ AtMost200 atoms ⌝ }
-    ensures { λ r. ⌜ (r ≡ gain atoms) × (r ≤ 3800) ⌝ }
-{
-    4 * (atoms.count[0] + atoms.count[4]) + atoms.count[1] + 10 * atoms.count[5]
-}
-
-fn terms_taken(atoms: Atoms) -> u64
-    requires { ⌜ AtMost200 atoms ⌝ }
-    ensures { λ r. ⌜ (r ≡ loss atoms) × (r ≤ 1000) ⌝ }
-{
-    atoms.count[6] + atoms.count[7] + atoms.count[8] + 2 * atoms.count[2]
-}
-
-fn answer(value: u64) -> Figure
-    ensures { λ r. ⌜ r ≡ shownFigure (answered value) ⌝ }
-{
-    Figure {
-        refusal: Refusal {
-            number: 0,
-            place: 0,
-        },
-        value,
-    }
 }
 
 // β in quarters of a fuel that is admitted; refusals 2, 3 and 4.
@@ -88,35 +60,21 @@ pub fn admit(purpose: Purpose, atoms: Atoms) -> Figure
 {
     let over = first_above(each(200), atoms);
     if 0 < over {
-        return refused_figure(refusal::COUNT_TOO_LARGE, over);
+        return refused_figure(answer::COUNT_TOO_LARGE, over);
     }
     let fault = at_fault(purpose, atoms);
     if 0 < fault {
-        return refused_figure(refusal::ELEMENT_NOT_ADMITTED, fault);
+        return refused_figure(answer::ELEMENT_NOT_ADMITTED, fault);
     }
-    let added = terms_added(atoms);
-    let taken = terms_taken(atoms);
+    let added = weighted_sum(ADDED, atoms);
+    let taken = weighted_sum(TAKEN, atoms);
     if added < taken + 2 {
-        return refused_figure(refusal::OXYGEN_TOO_LOW, 0);
+        return refused_figure(answer::OXYGEN_TOO_LOW, 0);
     }
-    answer(added - taken)
+    answered_figure(added - taken)
 }
 
-// The same of a fuel given by its formula text: refusals 1 and 2 of the reader, then 3 and 4.
-pub fn admit_text(purpose: Purpose, text: &[u8]) -> Figure
-    ensures { λ r. ⌜ r ≡ shownFigure (ofText (admission purpose) (now (text .entry))) ⌝ }
-    ensures bounded { λ r. ⌜ r .value ≤ 3800 ⌝ }
-{
-    let read = read_formula(text);
-    let declined = read.refusal;
-    if 0 < declined.number {
-        return refused_figure(declined.number, declined.place);
-    }
-    let atoms = read.atoms;
-    admit(purpose, atoms)
-}
-
-// β in quarters, of atom counts.
+// β in quarters.
 pub fn oxygen_coefficient(atoms: Atoms) -> Figure
     ensures { λ r. ⌜ r ≡ shownFigure (oxygenCoefficient atoms) ⌝ }
     ensures bounded { λ r. ⌜ r .value ≤ 3800 ⌝ }
@@ -124,14 +82,7 @@ pub fn oxygen_coefficient(atoms: Atoms) -> Figure
     admit(Purpose::OxygenCoefficient, atoms)
 }
 
-// β in quarters, of a formula text.
-pub fn oxygen_coefficient_of_text(text: &[u8]) -> Figure
-    ensures { λ r. ⌜ r ≡ shownFigure (ofText oxygenCoefficient (now (text .entry))) ⌝ }
-{
-    admit_text(Purpose::OxygenCoefficient, text)
-}
-
-// The stoichiometric fraction in hundredths of a percent, of atom counts.
+// The stoichiometric fraction in hundredths of a percent.
 pub fn stoichiometric_fraction(atoms: Atoms) -> Figure
     ensures { λ r. ⌜ r ≡ shownFigure (stoichiometricFraction atoms) ⌝ }
 {
@@ -140,18 +91,5 @@ pub fn stoichiometric_fraction(atoms: Atoms) -> Figure
     if 0 < declined.number {
         return beta;
     }
-    answer(round_div(1000000, 121 * beta.value + 100))
-}
-
-// The stoichiometric fraction, of a formula text.
-pub fn stoichiometric_fraction_of_text(text: &[u8]) -> Figure
-    ensures { λ r. ⌜ r ≡ shownFigure (ofText stoichiometricFraction (now (text .entry))) ⌝ }
-{
-    let read = read_formula(text);
-    let declined = read.refusal;
-    if 0 < declined.number {
-        return refused_figure(declined.number, declined.place);
-    }
-    let atoms = read.atoms;
-    stoichiometric_fraction(atoms)
+    answered_figure(round_div(1000000, 121 * beta.value + 100))
 }

@@ -1,7 +1,7 @@
 -- Exact fractions: which value one has, how two compare, and that a figure goes by the value alone and never falls as it rises.
 use mathlib.Core.Path.{_≡_, refl, sym, ap, ap₂}
 use Prim.Native.Nat.{ℕ, _+_, _*_, _≤_, _<_}
-use native.Mathlib.Nat.{mul-pos, mul-le-mul-right, le-of-mul-le-mul-right, eq-of-mul-eq-mul-right, le-antisymm, le-of-eq, lt-of-mul-lt-mul-right}
+use native.Mathlib.Nat.{mul-pos, mul-le-mul-right, le-of-mul-le-mul-right, eq-of-mul-eq-mul-right, lt-of-mul-lt-mul-right}
 use native.Mathlib.Omega.{arith}
 use Rattle.rounding.specs.Round.{roundDiv}
 use Rattle.rounding.specs.Fraction.{Fraction, _over_, whole, _⊞_, _⊠_, _⊘_, _⊑_, figure}
@@ -50,36 +50,50 @@ is-same {f} {n} {d} {m} {e} i h q =
     let c : f .num * e * d ≡ m * f .den * d = omega arith in
     record { den-pos = i .den-pos; pos = h; cross = eq-of-mul-eq-mul-right d (i .pos) _ _ c }
 
--- the order is that of the values
-pub at-most-trans : (f g h : Fraction) → f ⊑ g → g ⊑ h → 0 < g .den → f ⊑ h
-unfolding _⊑_
-at-most-trans f g h a b p =
-    let x = mul-le-mul-right (h .den) a in
-    let y = mul-le-mul-right (f .den) b in
+-- THE ORDER is that of the values
+pub at-most-trans : {f g h : Fraction} → f ⊑ g → g ⊑ h → f ⊑ h
+at-most-trans {f} {g} {h} a b =
+    let x = mul-le-mul-right (h .den) (a .cross) in
+    let y = mul-le-mul-right (f .den) (b .cross) in
     let z : f .num * h .den * g .den ≤ h .num * f .den * g .den = omega arith in
-    le-of-mul-le-mul-right z p
+    record { left-over = a .left-over; right-over = b .right-over; cross = le-of-mul-le-mul-right z (a .right-over) }
 
 module _ {f g : Fraction} {n d m e : ℕ} (i : Is f n d) (j : Is g m e) where
   pub at-most-is : n * e ≤ m * d → f ⊑ g
-  unfolding _⊑_ _over_
   at-most-is h =
-      at-most-trans f (n over d) g (le-of-eq (i .cross))
-      (at-most-trans (n over d) (m over e) g h (le-of-eq (sym (j .cross))) (j .pos)) (i .pos)
+      let a = ap (λ (x : ℕ). x * (g .den * e)) (i .cross) in
+      let b = ap (λ (x : ℕ). x * (f .den * d)) (j .cross) in
+      let k = mul-le-mul-right (f .den * g .den) h in
+      let z : f .num * g .den * (d * e) ≤ g .num * f .den * (d * e) = omega arith in
+      record { left-over = i .den-pos; right-over = j .den-pos; cross = le-of-mul-le-mul-right z (mul-pos (i .pos) (j .pos)) }
 
   pub at-most-values : f ⊑ g → n * e ≤ m * d
-  unfolding _⊑_ _over_
   at-most-values h =
-      at-most-trans (n over d) f (m over e) (le-of-eq (sym (i .cross)))
-      (at-most-trans f g (m over e) h (le-of-eq (j .cross)) (j .den-pos)) (i .den-pos)
+      let a = ap (λ (x : ℕ). x * (g .den * e)) (i .cross) in
+      let b = ap (λ (x : ℕ). x * (f .den * d)) (j .cross) in
+      let k = mul-le-mul-right (d * e) (h .cross) in
+      let z : n * e * (f .den * g .den) ≤ m * d * (f .den * g .den) = omega arith in
+      le-of-mul-le-mul-right z (mul-pos (i .den-pos) (j .den-pos))
 
--- figures
+-- a factor keeps it, on either side
+module _ {f g : Fraction} (h : Fraction) (p : 0 < h .den) (l : f ⊑ g) where
+  pub at-most-times : f ⊠ h ⊑ g ⊠ h
+  unfolding _⊠_
+  at-most-times =
+      let k = mul-le-mul-right (h .num * h .den) (l .cross) in
+      record { left-over = mul-pos (l .left-over) p; right-over = mul-pos (l .right-over) p; cross = omega arith }
+
+  pub times-at-most : h ⊠ f ⊑ h ⊠ g
+  unfolding _⊠_
+  times-at-most =
+      let k = mul-le-mul-right (h .num * h .den) (l .cross) in
+      record { left-over = mul-pos p (l .left-over); right-over = mul-pos p (l .right-over); cross = omega arith }
+
+-- FIGURES
 pub figure-is : {f : Fraction} {n d : ℕ} → Is f n d → figure f ≡ roundDiv n d
 unfolding figure
 figure-is {f} {n} {d} i = round-same (f .num) (f .den) n d (i .den-pos) (i .pos) (i .cross)
 
-pub figure-mono : (f g : Fraction) → f ⊑ g → 0 < f .den → 0 < g .den → figure f ≤ figure g
-unfolding figure _⊑_
-figure-mono f g h p q = round-mono (f .num) (f .den) (g .num) (g .den) p q h
-
-pub figure-same : (f g : Fraction) → f ⊑ g → g ⊑ f → 0 < f .den → 0 < g .den → figure f ≡ figure g
-figure-same f g h k p q = le-antisymm (figure-mono f g h p q) (figure-mono g f k q p)
+pub figure-mono : {f g : Fraction} → f ⊑ g → figure f ≤ figure g
+unfolding figure
+figure-mono {f} {g} h = round-mono (f .num) (f .den) (g .num) (g .den) (h .left-over) (h .right-over) (h .cross)

@@ -29,15 +29,22 @@ _⊠_ f g = record { num = f .num * g .num; den = f .den * g .den }
 unfoldable pub _⊘_ : Fraction → Fraction → Fraction
 _⊘_ f g = record { num = f .num * g .den; den = f .den * g .num }
 
--- at most, as a fact and as a test; and below
-unfoldable pub _⊑_ : Fraction → Fraction → Type 0
-_⊑_ f g = f .num * g .den ≤ g .num * f .den
+-- two fractions compared by their cross products; neither is over 0
+pub record Compares (R : ℕ → ℕ → Type 0) (f g : Fraction) : Type 0 where
+  pub left-over : 0 < f .den
+  pub right-over : 0 < g .den
+  pub cross : R (f .num * g .den) (g .num * f .den)
 
+-- at most, and below
+abbrev pub _⊑_ : Fraction → Fraction → Type 0
+_⊑_ f g = Compares (λ m n. m ≤ n) f g
+
+abbrev pub _⊏_ : Fraction → Fraction → Type 0
+_⊏_ f g = Compares (λ m n. m < n) f g
+
+-- at most, as a test of fractions that are not over 0
 unfoldable pub atMost : Fraction → Fraction → Bool
 atMost f g = leb (f .num * g .den) (g .num * f .den)
-
-unfoldable pub _⊏_ : Fraction → Fraction → Type 0
-_⊏_ f g = f .num * g .den < g .num * f .den
 
 -- the figure: the exact fraction rounded once
 unfoldable pub figure : Fraction → ℕ

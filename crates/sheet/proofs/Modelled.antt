@@ -4,17 +4,17 @@ use mathlib.Core.Bool.{not}
 use mathlib.Core.List.{List, [], _∷_}
 use mathlib.Core.Option.{Option, some, none}
 use Prim.Native.Nat.{ℕ, suc}
-use Rattle.refusal.specs.declared.Refusal.{Refusal}
-use Rattle.refusal.specs.Numbers.{badSheet}
-use Rattle.refusal.specs.Outcome.{Outcome, refused, answered, refuse, refuseAt, valueOf, andThen}
-use Rattle.text.specs.Sheet.{headed, records, firstBad}
+use Rattle.answer.specs.declared.Refusal.{Refusal}
+use Rattle.answer.specs.Numbers.{badSheet}
+use Rattle.answer.specs.Outcome.{Outcome, refused, answered, refuse, refuseAt, valueOf, andThen}
+use Rattle.csv.specs.Sheet.{headed, records, firstBadRecord}
 use Rattle.blend.specs.declared.Blend.{Blend}
 use Rattle.blend.specs.Fuel.{text}
 use Rattle.blend.specs.Calls.{changed, put, next, answers, answerTo, after}
-use Rattle.blend.specs.Blend.{Both, emptyBlend, adding, asking}
+use Rattle.blend.specs.Blend.{emptyBlend, adding, limits, LimitPair, asking}
 use Rattle.blend.specs.Claims.{keeper, blends, blendAnswers}
 use Rattle.blend.proofs.Theorem.{claims}
-use Rattle.sheet.specs.Mixture.{header, goodMixture, formulaOf, partsOf, atRecord, addingAll, sheetAnswer}
+use Rattle.sheet.specs.Mixture.{header, goodMixture, recordFormula, recordParts, atRecord, addingAll, sheetAnswer}
 use Rattle.sheet.specs.ByModel.{addings, firstRefusal, unlessRefused, ByModel}
 
 put-here : (states : ℕ → Blend) (c : Blend) → put states 0 c 0 ≡ c
@@ -26,7 +26,7 @@ all-added : (states : ℕ → Blend) (k : ℕ) (ls : List (List ℕ))
     → addingAll (states 0) k ls ≡ unlessRefused (firstRefusal k (answers keeper states (addings ls))) (answered (after keeper states (addings ls) 0))
 unfolding addingAll firstRefusal answers after answerTo next
 all-added states k [] = refl
-all-added states k (l ∷ ls) = go (adding (states 0) (text (formulaOf l)) (partsOf l)) (λ c. all-added (put states 0 c) (suc k) ls)
+all-added states k (l ∷ ls) = go (adding (states 0) (text (recordFormula l)) (recordParts l)) (λ c. all-added (put states 0 c) (suc k) ls)
   where
     go : (o : Outcome Blend)
         → ((c : Blend) → addingAll (put states 0 c 0) (suc k) ls ≡ unlessRefused (firstRefusal (suc k) (answers keeper (put states 0 c) (addings ls))) (answered (after keeper (put states 0 c) (addings ls) 0)))
@@ -44,7 +44,7 @@ unfolding sheetAnswer
 by-model s =
     let cs = addings (records s) in
     let c = claims cs in
-    ap (λ (o : Outcome Both). refuse badSheet 0 (not (headed header s)) (refuseAt badSheet (firstBad goodMixture 1 (records s)) o))
-    (ap (λ (o : Outcome Blend). andThen o (λ b. asking b none)) (all-added (λ i. emptyBlend) 1 (records s))
-    ∙ unless-then (firstRefusal 1 (blendAnswers cs)) (blends cs 0) (λ b. asking b none)
-    ∙ rw (c .answered, c .by-le-chatelier 0 none))
+    ap (λ (o : Outcome LimitPair). refuse badSheet 0 (not (headed header s)) (refuseAt badSheet (firstBadRecord goodMixture (records s)) o))
+    (ap (λ (o : Outcome Blend). andThen o (λ b. asking b (limits none))) (all-added (λ i. emptyBlend) 1 (records s))
+    ∙ unless-then (firstRefusal 1 (blendAnswers cs)) (blends cs 0) (λ b. asking b (limits none))
+    ∙ rw (c .answered, c .by-entries 0 (limits none)))

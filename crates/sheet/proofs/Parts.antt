@@ -1,7 +1,7 @@
--- Laws of parts: by the tests that the code makes in turn, as one field, and the number that the digits spell.
+-- Laws of parts: by the tests that the code makes in turn, and the number that the digits spell.
 use mathlib.Core.Path.{_≡_, refl, sym, _∙_}
 use mathlib.Core.Bool.{Bool, true, false, not, _&&_}
-use mathlib.Core.List.{List, [], _∷_}
+use mathlib.Core.List.{List, []}
 use Prim.Native.Nat.{ℕ, _+_, _*_, _-_, _^_, _≤_, _<_}
 use native.Mathlib.Nat.{pow-suc, pow-le-pow-right}
 use native.Mathlib.Numerals.{add-one}
@@ -10,15 +10,16 @@ use borrow.Author.Tests.{le-leb, lt-leb, leb-true, eq-eqb, ne-eqb}
 use lib.Dec.{leb, eqb, lit<}
 use lib.ListN.{length, getD, drop, drop-of-length-le}
 use lib.Seq.{drop-cons}
-use Rattle.refusal.proofs.Tests.{both}
+use Rattle.answer.proofs.Tests.{both}
+use Rattle.text.specs.Bytes.{byte}
 use Rattle.text.specs.Decimal.{digitFrom}
-use Rattle.text.specs.Lines.{field, fields, all}
+use Rattle.csv.specs.Lines.{all}
 use Rattle.text.proofs.Decimals.{digit-bounds}
-use Rattle.text.proofs.Fields.{no-comma, all-here}
+use Rattle.csv.proofs.Fields.{all-here}
 use Rattle.sheet.specs.Mixture.{isParts, spelledFrom}
 
 abbrev pub digits : List ℕ → Bool
-digits s = all (digitFrom 48) s
+digits s = all (digitFrom (byte "0")) s
 
 module _ (s : List ℕ) where
   pub parts-other : digits s ≡ false → false ≡ isParts s
@@ -37,7 +38,7 @@ module _ (s : List ℕ) where
   unfolding isParts
   parts-one e h = simp (e, le-leb 1 (length s) (omega arith), le-leb (length s) 7 (omega arith), eq-eqb (length s) 1 h)
 
-  pub parts-more : digits s ≡ true → (length s ≡ 0 → ⊥) → length s ≤ 7 → (length s ≡ 1 → ⊥) → not (eqb (getD s 0 0) 48) ≡ isParts s
+  pub parts-more : digits s ≡ true → (length s ≡ 0 → ⊥) → length s ≤ 7 → (length s ≡ 1 → ⊥) → not (eqb (getD s 0 0) (byte "0")) ≡ isParts s
   unfolding isParts
   parts-more e h k n = simp (e, le-leb 1 (length s) (omega arith), le-leb (length s) 7 k, ne-eqb (length s) 1 n)
 
@@ -47,18 +48,6 @@ module _ (s : List ℕ) where
       let k = both (digits s) _ h in
       let m = both (leb 1 (length s) && leb (length s) 7) _ (k .1) in
       (k .0, leb-true (length s) 7 (both (leb 1 (length s)) (leb (length s) 7) (m .0) .1))
-
--- digits have no comma, so that parts are one field
-digits-field : (l : List ℕ) → digits l ≡ true → length l ≤ length (field l)
-unfolding field all
-digits-field [] e = omega arith
-digits-field (a ∷ l) e =
-    let k = both (digitFrom 48 a) (digits l) e in
-    let other : eqb a 44 ≡ false = ne-eqb a 44 (λ z. omega (arith, digit-bounds 48 a (k .0))) in
-    rw other (omega (arith, digits-field l (k .1)))
-
-pub parts-single : (p : List ℕ) → isParts p ≡ true → fields p ≡ p ∷ []
-parts-single p e = no-comma p (digits-field p (parts-facts p e .0))
 
 -- THE NUMBER, while a loop passes the digits: n is spelled so far
 pub record Spelling (s : List ℕ) (i n : ℕ) : Type 0 where
@@ -82,15 +71,15 @@ module _ (s : List ℕ) (i n : ℕ) (h : Spelling s i n) where
   spelling-ends l = sym (h .spelled ∙ rw (drop-of-length-le s l))
 
   module _ (l : i < length s) where
-    pub spelling-digit : (48 ≤ getD s i 0) × (getD s i 0 ≤ 57)
-    spelling-digit = digit-bounds 48 (getD s i 0) (all-here (digitFrom 48) s i l (h .rest) .0)
+    pub spelling-digit : (byte "0" ≤ getD s i 0) × (getD s i 0 ≤ byte "9")
+    spelling-digit = digit-bounds (byte "0") (getD s i 0) (all-here (digitFrom (byte "0")) s i l (h .rest) .0)
 
-    pub spelling-more : Spelling s (i + 1) (10 * n + (getD s i 0 - 48))
+    pub spelling-more : Spelling s (i + 1) (10 * n + (getD s i 0 - byte "0"))
     unfolding spelledFrom
     spelling-more = record {
       within = omega arith;
       short = h .short;
-      rest = all-here (digitFrom 48) s i l (h .rest) .1;
+      rest = all-here (digitFrom (byte "0")) s i l (h .rest) .1;
       small = rw (add-one i, pow-suc 10 i) (omega (arith, h .small, spelling-digit));
       spelled = h .spelled ∙ rw (drop-cons s i 0 l, add-one i);
     }

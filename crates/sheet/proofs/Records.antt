@@ -1,154 +1,77 @@
--- Laws of a sheet's records: what makes one good, and how they are added in order.
-use mathlib.Core.Path.{_≡_, sym, ap, _∙_}
-use mathlib.Core.Bool.{true, false}
+-- Laws of a sheet's records: the fields of one by their positions, and how records are added in order.
+use mathlib.Core.Path.{_≡_, sym, _∙_}
 use mathlib.Core.List.{List, [], _∷_}
-use mathlib.Core.Option.{some, none}
 use Prim.Native.Nat.{ℕ, suc, _+_, _-_, _≤_, _<_}
-use native.Mathlib.Numerals.{add-one}
 use native.Mathlib.Omega.{arith}
-use lib.ListN.{length, getD, take, drop}
-use Rattle.refusal.specs.Outcome.{Outcome, refused, answered, refusal, refusalOf, valueOf, andThen, Numbered}
-use Rattle.refusal.specs.Lowest.{orZero}
-use Rattle.refusal.proofs.Lowest.{found-some}
-use Rattle.refusal.proofs.Outcomes.{told-refused, told-answered}
-use Rattle.text.specs.Lines.{line, lines, field, fields, all, plain}
-use Rattle.text.specs.Sheet.{headed, records, firstBad}
-use Rattle.text.proofs.Lines.{tail, lines-none, line-within, line-next}
-use Rattle.text.proofs.Fields.{record-other, record-single, record-second, TwoFields, two-fields}
-use Rattle.text.proofs.Sheets.{records-from, headed-facts, all-good, bad-zero}
+use lib.ListN.{length, take, drop, drop-of-length-le}
+use Rattle.answer.specs.Outcome.{Outcome, refused, answered, refusal, andThen, Numbered}
+use Rattle.csv.specs.declared.Span.{Span}
+use Rattle.csv.specs.Lines.{comma, lineAt, fieldAt}
+use Rattle.csv.specs.Sheet.{records}
+use Rattle.csv.proofs.Spans.{span-order}
+use Rattle.csv.proofs.Fields.{field-here, field-later}
+use Rattle.csv.proofs.Sheets.{Walk, walk-starts, walk-ends, walk-more, walk-next}
 use Rattle.blend.specs.declared.Blend.{Blend}
 use Rattle.blend.specs.declared.Blended.{Blended}
-use Rattle.blend.specs.declared.Limits.{Limits}
 use Rattle.blend.specs.Fuel.{text}
-use Rattle.blend.specs.Blend.{emptyBlend, adding, asking, shownBlend, shownLimits}
-use Rattle.blend.proofs.Answers.{adding-numbered}
-use Rattle.sheet.specs.Mixture.{header, isParts, goodMixture, formulaOf, spelledFrom, partsOf, atRecord, addingAll, sheetAnswer}
-use Rattle.sheet.proofs.Parts.{parts-single}
+use Rattle.blend.specs.Blend.{emptyBlend, adding, shownBlend}
+use Rattle.blend.proofs.Told.{adding-numbered, blend-refused, blend-answered}
+use Rattle.sheet.specs.Mixture.{recordFormula, recordParts, atRecord, addingAll}
+use Rattle.sheet.specs.Internal.{Splits}
 
--- A LINE, by the tests that the code makes in turn
-module _ (l : List ℕ) where
-  pub line-other : all plain l ≡ false → false ≡ goodMixture l
-  line-other e = sym (record-other isParts parts-single l e)
-
-  pub line-single : all plain l ≡ true → length l ≤ length (field l) → false ≡ goodMixture l
-  line-single e h = sym (record-single isParts parts-single l e h)
-
-  pub line-parts : (n : ℕ) → n ≡ length (field l) → all plain l ≡ true → n < length l → isParts (take (length l - (n + 1)) (drop (n + 1) l)) ≡ goodMixture l
-  line-parts n e p h = rw (tail l (n + 1), e) (sym (record-second isParts parts-single l p (omega arith)))
-
-  -- a good one whose first field has n bytes
-  module _ (g : goodMixture l ≡ true) (n : ℕ) (e : n ≡ length (field l)) where
-    fielded : TwoFields isParts parts-single l
-    fielded = two-fields isParts parts-single l g
-
-    pub comma-within : n + 1 ≤ length l
-    comma-within = omega (arith, fielded .parted)
-
-    pub first-is : take n l ≡ formulaOf l
-    first-is = rw e (sym (fielded .first))
-
-    pub rest-is : take (length l - (n + 1)) (drop (n + 1) l) ≡ getD (fields l) 1 []
-    rest-is = tail l (n + 1) ∙ rw e (sym (fielded .rest))
-
-    pub rest-parts : isParts (take (length l - (n + 1)) (drop (n + 1) l)) ≡ true
-    rest-parts = rw (tail l (n + 1), e) (fielded .passes)
-
-    pub record-added : (b : Blend) (v : ℕ) (r : Blended) → v ≡ spelledFrom 0 (take (length l - (n + 1)) (drop (n + 1) l)) → r ≡ shownBlend b (adding b (text (take n l)) v)
-        → r ≡ shownBlend b (adding b (text (formulaOf l)) (partsOf l))
-    record-added b v r f h = h ∙ rw (first-is, f, rest-is)
+-- the first field, and the second, which begins where the first says
+pub splits : (l : List ℕ) (f p : Span) → f ≡ fieldAt l 0 → p ≡ fieldAt l (f .next) → Splits l (record { formula = f .end; start = f .next; end = p .end })
+splits l f p e d =
+    let o = span-order comma l 0 1 (omega arith) f e in
+    let q = span-order comma l (f .next) 1 (o .2) p d in
+    let k : f .end - 0 ≡ f .end = omega arith in
+    record {
+      within = o .1;
+      formula-is = sym (rw k at (field-here l 0 (omega arith) f e));
+      order = q .0;
+      ends = q .1;
+      parts-are = sym (field-later l 0 (omega arith) f e 0 ∙ field-here l (f .next) (o .2) p d);
+    }
 
 -- ADDING a record
 abbrev adds : Blend → List ℕ → Outcome Blend
-adds b l = adding b (text (formulaOf l)) (partsOf l)
+adds b l = adding b (text (recordFormula l)) (recordParts l)
 
--- A LOOP that has come to the record at `at`, the k-th, with the blend b of those before it
-pub record Adding (s : List ℕ) (b : Blend) (at k : ℕ) : Type 0 where
-  pub size : length s ≤ 65536
-  pub few : k ≤ at
-  pub near : at ≤ 65538
-  pub good : firstBad goodMixture k (lines (drop at s)) ≡ none
-  pub same : addingAll emptyBlend 1 (lines (drop 15 s)) ≡ addingAll b k (lines (drop at s))
-
-pub adding-starts : (s : List ℕ) → length s ≤ 65536 → firstBad goodMixture 1 (lines (drop 15 s)) ≡ none → (b : Blend) → b ≡ emptyBlend → Adding s b 15 1
-adding-starts s l g b e = record { size = l; few = omega arith; near = omega arith; good = g; same = rw e }
-
-module _ (s : List ℕ) (b : Blend) (at k : ℕ) (h : Adding s b at k) where
-  -- the record has n bytes
-  module _ (n : ℕ) (l : at < length s) (e : n ≡ length (line (take (length s - at) (drop at s)))) where
-    abbrev row : List ℕ
-    row = take (at + n - at) (drop at s)
-
-    pub adding-good : goodMixture row ≡ true
-    adding-good = all-good goodMixture s at n l e k (h .good) .0
-
-    -- it was added with the answer r
-    module _ (r : Blended) (f : r ≡ shownBlend b (adds b row)) where
-      pub adding-refused : 0 < r .refusal .number
-          → shownBlend emptyBlend (refused (refusal (r .refusal .number) k)) ≡ shownBlend emptyBlend (addingAll emptyBlend 1 (lines (drop 15 s)))
-      unfolding addingAll
-      adding-refused z =
-          let g : adds b row ≡ refused (refusalOf (adds b row)) = told-refused (adds b row) (rw f at z) in
-          rw (h .same, line-next s at n l e, f, g)
-
-      pub adding-more : r .refusal .number ≤ 0 → Adding s (r .blend) (at + n + 2) (k + 1)
-      unfolding addingAll
-      adding-more z =
-          let g : adds b row ≡ answered (valueOf b (adds b row)) =
-          told-answered b (adds b row) (adding-numbered b (text (formulaOf row)) (partsOf row)) (omega (arith, rw f at z)) in
-          record {
-            size = h .size;
-            few = omega (arith, h .few);
-            near = omega (arith, h .size, line-within s at n l e);
-            good = all-good goodMixture s at n l e k (h .good) .1;
-            same = h .same ∙ rw (line-next s at n l e, add-one k, f, g);
-          }
-
-  pub adding-done : length s ≤ at → shownBlend emptyBlend (answered b) ≡ shownBlend emptyBlend (addingAll emptyBlend 1 (lines (drop 15 s)))
-  unfolding addingAll
-  adding-done l = rw (h .same, lines-none s at l)
-
-all-numbered : (b : Blend) (k : ℕ) (ls : List (List ℕ)) → Numbered (addingAll b k ls)
+pub all-numbered : (b : Blend) (k : ℕ) (ls : List (List ℕ)) → Numbered (addingAll b k ls)
 unfolding addingAll
 all-numbered b k [] = tt
-all-numbered b k (l ∷ ls) = go (adds b l) (adding-numbered b (text (formulaOf l)) (partsOf l)) (λ c. all-numbered c (suc k) ls)
+all-numbered b k (l ∷ ls) = go (adds b l) (adding-numbered b (text (recordFormula l)) (recordParts l)) (λ c. all-numbered c (suc k) ls)
   where
     go : (o : Outcome Blend) → Numbered o → ((c : Blend) → Numbered (addingAll c (suc k) ls)) → Numbered (andThen (atRecord k o) (λ c. addingAll c (suc k) ls))
     go (refused r) h later = h
     go (answered c) h later = later c
 
--- THE ANSWER, by the tests that the code makes in turn
-module _ (s : List ℕ) where
-  pub answer-headless : headed header s ≡ false → shownLimits (refused (refusal 15 0)) ≡ shownLimits (sheetAnswer s)
-  unfolding sheetAnswer
-  answer-headless e = rw e
+-- A LOOP that has come to `at`, with the blend b of the n records before it
+pub record Adding (s : List ℕ) (b : Blend) (at n : ℕ) : Type 0 where
+  pub walk : Walk s at n
+  pub same : addingAll emptyBlend 1 (records s) ≡ addingAll b (1 + n) (drop n (records s))
 
-  module _ (e : headed header s ≡ true) where
-    pub not-long : length s ≤ 65536
-    not-long = headed-facts header s e .0
+pub adding-starts : (s : List ℕ) (r : Span) → r ≡ lineAt s 0 → (b : Blend) → b ≡ emptyBlend → Adding s b (r .next) 0
+adding-starts s r e b f = record { walk = walk-starts s r e; same = rw f }
 
-    from : records s ≡ lines (drop 15 s)
-    from = records-from header s e (omega arith)
+module _ (s : List ℕ) (b : Blend) (at n : ℕ) (h : Adding s b at n) where
+  pub adding-done : length s ≤ at → shownBlend emptyBlend (answered b) ≡ shownBlend emptyBlend (addingAll emptyBlend 1 (records s))
+  unfolding addingAll
+  adding-done l = rw (h .same, drop-of-length-le (records s) (walk-ends s at n (h .walk) l))
 
-    module _ (k : ℕ) (f : k ≡ orZero (firstBad goodMixture 1 (lines (drop 15 s)))) where
-      pub answer-bad : 0 < k → shownLimits (refused (refusal 15 k)) ≡ shownLimits (sheetAnswer s)
-      unfolding sheetAnswer
-      answer-bad l =
-          let bad : firstBad goodMixture 1 (lines (drop 15 s)) ≡ some k = found-some _ (omega arith) ∙ ap some (sym f) in
-          rw (e, from, bad)
+  -- the record there was added with the answer r
+  module _ (l : at < length s) (p : Span) (e : p ≡ lineAt s at) (r : Blended) (f : r ≡ shownBlend b (adds b (take (p .end - at) (drop at s)))) where
+    abbrev row : List ℕ
+    row = take (p .end - at) (drop at s)
 
-      pub none-bad : k ≤ 0 → firstBad goodMixture 1 (lines (drop 15 s)) ≡ none
-      none-bad l = bad-zero goodMixture (lines (drop 15 s)) (omega arith)
+    pub adding-refused : 0 < r .refusal .number → (x : Blended) (k : ℕ) → x ≡ shownBlend emptyBlend (refused (refusal (r .refusal .number) k)) → k ≡ 1 + n
+        → x ≡ shownBlend emptyBlend (addingAll emptyBlend 1 (records s))
+    unfolding addingAll
+    adding-refused z x k g i = g ∙ rw (h .same, walk-next s at n (h .walk) l p e, blend-refused b (adds b row) r f z, i)
 
-      module _ (z : k ≤ 0) (r : Blended) (g : r ≡ shownBlend emptyBlend (addingAll emptyBlend 1 (lines (drop 15 s)))) where
-        abbrev all-of : Outcome Blend
-        all-of = addingAll emptyBlend 1 (lines (drop 15 s))
-
-        pub answer-refused : 0 < r .refusal .number → shownLimits (refused (r .refusal)) ≡ shownLimits (sheetAnswer s)
-        unfolding sheetAnswer
-        answer-refused l = let h : all-of ≡ refused (refusalOf all-of) = told-refused all-of (rw g at l) in rw (e, from, none-bad z, g, h)
-
-        pub answer-limits : r .refusal .number ≤ 0 → (a : Limits) → a ≡ shownLimits (asking (r .blend) none) → a ≡ shownLimits (sheetAnswer s)
-        unfolding sheetAnswer
-        answer-limits l a q =
-            let h : all-of ≡ answered (valueOf emptyBlend all-of) = told-answered emptyBlend all-of (all-numbered emptyBlend 1 (lines (drop 15 s))) (omega (arith, rw g at l)) in
-            q ∙ rw (e, from, none-bad z, g, h)
+    pub adding-more : r .refusal .number ≤ 0 → Adding s (r .blend) (p .next) (n + 1)
+    unfolding addingAll
+    adding-more z =
+        let g = blend-answered b (adds b row) r f (adding-numbered b (text (recordFormula row)) (recordParts row)) z in
+        let k : suc (1 + n) ≡ 1 + (n + 1) = omega arith in
+        record { walk = walk-more s at n (h .walk) l p e; same = h .same ∙ rw (walk-next s at n (h .walk) l p e, g, k) }

@@ -1,10 +1,10 @@
 -- A sheet's answer as text: a header line, then the two limits or the refusal; CRLF after each line.
 use mathlib.Core.Bool.{cond}
-use mathlib.Core.List.{List, [], _∷_, _++_}
+use mathlib.Core.List.{List, _++_}
 use Prim.Native.Nat.{ℕ, _/_, _%_}
 use lib.Dec.{eqb}
 use lib.ListN.{length}
-use Rattle.refusal.specs.declared.Refusal.{Refusal}
+use Rattle.answer.specs.declared.Refusal.{Refusal}
 use Rattle.text.specs.declared.Written.{Written}
 use Rattle.text.specs.Bytes.{bytes}
 use Rattle.text.specs.Decimal.{decimal}
@@ -14,9 +14,6 @@ use Rattle.blend.specs.declared.Limits.{Limits}
 -- an answer by its numbers
 abbrev pub answerOf : Refusal → ℕ → ℕ → Limits
 answerOf r lower upper = record { refusal = r; lower = lower; upper = upper }
-
-abbrev pub lineEnd : List ℕ
-lineEnd = 13 ∷ 10 ∷ []
 
 -- hundredths of a percent as percent with two decimals
 unfoldable pub percent : ℕ → List ℕ
@@ -35,7 +32,7 @@ unfoldable pub answerLine : Limits → List ℕ
 answerLine a = cond (eqb (a .refusal .number) 0) (limitsLine (a .lower) (a .upper)) (refusalLine (a .refusal))
 
 unfoldable pub answerText : Limits → List ℕ
-answerText a = ((bytes "answer,record,lower,upper" ++ lineEnd) ++ answerLine a) ++ lineEnd
+answerText a = (bytes "answer,record,lower,upper\r\n" ++ answerLine a) ++ bytes "\r\n"
 
 -- written whole at the start of a room, or refusal 17 and the room as it was
 abbrev pub answerWritten : Limits → List ℕ → Written

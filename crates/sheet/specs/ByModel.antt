@@ -4,25 +4,26 @@ use mathlib.Core.Bool.{not}
 use mathlib.Core.List.{List, [], _∷_, map}
 use mathlib.Core.Option.{Option, some, none}
 use Prim.Native.Nat.{ℕ, suc}
-use Rattle.refusal.specs.declared.Refusal.{Refusal}
-use Rattle.refusal.specs.Numbers.{badSheet}
-use Rattle.refusal.specs.Outcome.{Outcome, refused, refusal, refuse, refuseAt}
-use Rattle.text.specs.Sheet.{headed, records, firstBad}
+use Rattle.answer.specs.declared.Refusal.{Refusal}
+use Rattle.answer.specs.Numbers.{badSheet}
+use Rattle.answer.specs.Outcome.{Outcome, refused, refusal, refuse, refuseAt}
+use Rattle.csv.specs.Sheet.{headed, records, firstBadRecord}
 use Rattle.blend.specs.Fuel.{text}
-use Rattle.blend.specs.Calls.{Call, add, Answer, done, limits, declined}
+use Rattle.blend.specs.Blend.{limits}
+use Rattle.blend.specs.Calls.{Call, add, Answer, done, told, declined}
 use Rattle.blend.specs.Model.{modelAsks}
 use Rattle.blend.specs.Claims.{entries, modelAnswers}
-use Rattle.sheet.specs.Mixture.{header, goodMixture, formulaOf, partsOf, sheetAnswer}
+use Rattle.sheet.specs.Mixture.{header, goodMixture, recordFormula, recordParts, sheetAnswer}
 
 -- the addings that records are, all to blend 0
 abbrev pub addings : List (List ℕ) → List Call
-addings ls = map (λ (l : List ℕ). add 0 (text (formulaOf l)) (partsOf l)) ls
+addings ls = map (λ (l : List ℕ). add 0 (text (recordFormula l)) (recordParts l)) ls
 
 -- the first refusal among answers that are numbered from k, with its number in the list as its place
 unfoldable pub firstRefusal : ℕ → List Answer → Option Refusal
 firstRefusal k [] = none
 firstRefusal k (done ∷ rest) = firstRefusal (suc k) rest
-firstRefusal k (limits l ∷ rest) = firstRefusal (suc k) rest
+firstRefusal k (told q x ∷ rest) = firstRefusal (suc k) rest
 firstRefusal k (declined r ∷ rest) = some (refusal (r .number) k)
 
 abbrev pub unlessRefused : {A : Type 0} → Option Refusal → Outcome A → Outcome A
@@ -34,5 +35,5 @@ abbrev pub ByModel : List ℕ → Type 0
 ByModel s =
     sheetAnswer s
     ≡ refuse badSheet 0 (not (headed header s))
-    (refuseAt badSheet (firstBad goodMixture 1 (records s))
-    (unlessRefused (firstRefusal 1 (modelAnswers (addings (records s)))) (modelAsks (entries (addings (records s)) 0) none)))
+    (refuseAt badSheet (firstBadRecord goodMixture (records s))
+    (unlessRefused (firstRefusal 1 (modelAnswers (addings (records s)))) (modelAsks (entries (addings (records s)) 0) (limits none))))

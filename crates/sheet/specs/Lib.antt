@@ -1,3 +1,4 @@
 pub mod Mixture
 pub mod ByModel
 pub mod Answer
+pub mod Internal

@@ -5,15 +5,15 @@ use mathlib.Core.Option.{none}
 use Prim.Native.Nat.{ℕ, suc, _+_, _*_, _-_}
 use lib.Dec.{leb, eqb}
 use lib.ListN.{length, getD}
-use Rattle.refusal.specs.Numbers.{badSheet}
-use Rattle.refusal.specs.Outcome.{Outcome, refused, answered, refusal, refuse, refuseAt, andThen}
-use Rattle.text.specs.Bytes.{bytes}
+use Rattle.answer.specs.Numbers.{badSheet}
+use Rattle.answer.specs.Outcome.{Outcome, refused, answered, refusal, refuse, refuseAt, andThen}
+use Rattle.text.specs.Bytes.{byte, bytes}
 use Rattle.text.specs.Decimal.{digitFrom}
-use Rattle.text.specs.Lines.{fields, all}
-use Rattle.text.specs.Sheet.{headed, records, goodRecord, firstBad}
+use Rattle.csv.specs.Lines.{fields, all}
+use Rattle.csv.specs.Sheet.{headed, records, goodRecord, firstBadRecord}
 use Rattle.blend.specs.declared.Blend.{Blend}
 use Rattle.blend.specs.Fuel.{text}
-use Rattle.blend.specs.Blend.{Both, emptyBlend, adding, asking}
+use Rattle.blend.specs.Blend.{emptyBlend, adding, limits, LimitPair, asking}
 
 -- FORM
 abbrev pub header : List ℕ
@@ -21,23 +21,23 @@ header = bytes "formula,parts"
 
 -- parts: 1 to 7 digits without leading zero, or `0`
 unfoldable pub isParts : List ℕ → Bool
-isParts p = all (digitFrom 48) p && ((leb 1 (length p) && leb (length p) 7) && (eqb (length p) 1 || not (eqb (getD p 0 0) 48)))
+isParts p = all (digitFrom (byte "0")) p && ((leb 1 (length p) && leb (length p) 7) && (eqb (length p) 1 || not (eqb (getD p 0 0) (byte "0"))))
 
 -- a record: exactly two fields, the second of them parts
 abbrev pub goodMixture : List ℕ → Bool
 goodMixture l = goodRecord 2 (λ fs. isParts (getD fs 1 [])) l
 
 -- RECORDS. The formula of one, and the number that its digits spell.
-abbrev pub formulaOf : List ℕ → List ℕ
-formulaOf l = getD (fields l) 0 []
+abbrev pub recordFormula : List ℕ → List ℕ
+recordFormula l = getD (fields l) 0 []
 
 -- digits behind others that spell n
 unfoldable pub spelledFrom : ℕ → List ℕ → ℕ
 spelledFrom n [] = n
-spelledFrom n (d ∷ s) = spelledFrom (10 * n + (d - 48)) s
+spelledFrom n (d ∷ s) = spelledFrom (10 * n + (d - byte "0")) s
 
-abbrev pub partsOf : List ℕ → ℕ
-partsOf l = spelledFrom 0 (getD (fields l) 1 [])
+abbrev pub recordParts : List ℕ → ℕ
+recordParts l = spelledFrom 0 (getD (fields l) 1 [])
 
 -- a refusal at record k
 abbrev pub atRecord : {A : Type 0} → ℕ → Outcome A → Outcome A
@@ -47,11 +47,11 @@ atRecord k (answered a) = answered a
 -- the records, numbered from k, added to a blend in order: the first refusal, with its record
 unfoldable pub addingAll : Blend → ℕ → List (List ℕ) → Outcome Blend
 addingAll b k [] = answered b
-addingAll b k (l ∷ ls) = andThen (atRecord k (adding b (text (formulaOf l)) (partsOf l))) (λ c. addingAll c (suc k) ls)
+addingAll b k (l ∷ ls) = andThen (atRecord k (adding b (text (recordFormula l)) (recordParts l))) (λ c. addingAll c (suc k) ls)
 
 -- THE ANSWER: form for the whole sheet first, then the records in order, then the limits of them all without a named temperature
-unfoldable pub sheetAnswer : List ℕ → Outcome Both
+unfoldable pub sheetAnswer : List ℕ → Outcome LimitPair
 sheetAnswer s =
     refuse badSheet 0 (not (headed header s))
-    (refuseAt badSheet (firstBad goodMixture 1 (records s))
-    (andThen (addingAll emptyBlend 1 (records s)) (λ b. asking b none)))
+    (refuseAt badSheet (firstBadRecord goodMixture (records s))
+    (andThen (addingAll emptyBlend 1 (records s)) (λ b. asking b (limits none))))

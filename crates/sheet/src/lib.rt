@@ -1,18 +1,18 @@
 // The mixture sheet: its answer, and the answer as text.
 ghost use mathlib.Core.Path.{_≡_};
 ghost use mathlib.Core.Bool.{true};
-ghost use mathlib.Core.Option.{none};
-ghost use Prim.Native.Nat.{_≤_};
-ghost use lib.ListN.{length, drop};
-ghost use Rattle.refusal.specs.Lowest.{orZero};
-ghost use Rattle.refusal.specs.Outcome.{refused, refusal};
+ghost use mathlib.Core.Option.{none, Option·getD};
+ghost use Rattle.answer.specs.Outcome.{refused, refusal};
+ghost use Rattle.text.specs.Bytes.{byte};
 ghost use Rattle.text.specs.Decimal.{digitFrom};
-ghost use Rattle.text.specs.Lines.{lines, all};
-ghost use Rattle.text.specs.Sheet.{headed, firstBad};
+ghost use Rattle.csv.specs.Lines.{all};
+ghost use Rattle.csv.specs.Sheet.{records, firstBadRecord};
 ghost use Rattle.blend.specs.Fuel.{text as fuel-text};
 ghost use Rattle.blend.specs.Blend.{emptyBlend, adding, shownBlend, shownLimits};
-ghost use Rattle.sheet.specs.Mixture.{header, isParts, goodMixture, spelledFrom, formulaOf, partsOf, addingAll, sheetAnswer};
+ghost use Rattle.sheet.specs.Mixture.{isParts, goodMixture, spelledFrom, recordFormula, recordParts, addingAll, sheetAnswer};
 ghost use Rattle.sheet.specs.ByModel.{ByModel};
+ghost use Rattle.sheet.specs.Internal.{Splits};
+use answer::Refusal;
 use blend::Blend;
 use blend::Blended;
 use blend::Limits;
@@ -20,21 +20,18 @@ use blend::add_fuel_text;
 use blend::blend_limits;
 use blend::empty_blend;
 use blend::no_limits;
-use refusal::Refusal;
-use text::field_length;
+use csv::field_at;
+use csv::is_formed;
+use csv::is_headed;
+use csv::line_at;
 use text::is_digit_from;
-use text::is_plain_line;
-use text::line_length;
 
 mod report;
 
 pub use report::write_answer;
 
-// Where the records begin: behind the header and its CRLF.
-const FIRST_RECORD: usize = 15;
-
 fn all_digits(s: &[u8]) -> bool
-    ensures { λ r. ⌜ r ≡ all (digitFrom 48) (now (s .entry)) ⌝ }
+    ensures { λ r. ⌜ r ≡ all (digitFrom (byte "0")) (now (s .entry)) ⌝ }
 {
     let mut i = 0;
     while i < s.len() {
@@ -59,48 +56,57 @@ fn is_parts(s: &[u8]) -> bool
     if 7 < s.len() {
         return false;
     }
-    s.len() == 1 || s[0] != 48
+    s.len() == 1 || s[0] != b'0'
+}
+
+// The two fields of a record: where the formula ends, and where the parts begin and end.
+struct Columns {
+    formula: usize,
+    start: usize,
+    end: usize,
+}
+
+fn split(l: &[u8]) -> Columns
+    ensures { λ r. ⌜ Splits (now (l .entry)) r ⌝ }
+{
+    let formula = field_at(l, 0);
+    let start = formula.next;
+    let parts = field_at(l, start);
+    Columns {
+        formula: formula.end,
+        start,
+        end: parts.end,
+    }
 }
 
 // Whether a line is a good record.
 fn is_record(l: &[u8]) -> bool
     ensures { λ r. ⌜ r ≡ goodMixture (now (l .entry)) ⌝ }
 {
-    if !is_plain_line(l) {
+    if !is_formed(l, 2) {
         return false;
     }
-    let n = field_length(l);
-    if n < l.len() {
-        return is_parts(&l[n + 1..]);
-    }
-    false
-}
-
-// Whether a sheet is not too long and begins with the header.
-fn has_header(s: &[u8]) -> bool
-    ensures { λ r. ⌜ r ≡ headed header (now (s .entry)) ⌝ }
-{
-    if 65536 < s.len() {
-        return false;
-    }
-    let n = line_length(s);
-    check::same(&s[..n], b"formula,parts")
+    let columns = split(l);
+    let start = columns.start;
+    let end = columns.end;
+    is_parts(&l[start..end])
 }
 
 // The number of the first bad record, 0 where there is none.
-fn first_bad(s: &[u8]) -> u64
-    requires { ⌜ length (now s) ≤ 65536 ⌝ }
-    ensures { λ r. ⌜ r ≡ orZero (firstBad goodMixture 1 (lines (drop 15 (now (s .entry))))) ⌝ }
+fn first_bad_record(s: &[u8]) -> u64
+    ensures { λ r. ⌜ r ≡ Option·getD (firstBadRecord goodMixture (records (now (s .entry)))) 0 ⌝ }
 {
-    let mut at = FIRST_RECORD;
-    let mut row: u64 = 1;
+    let header = line_at(s, 0);
+    let mut at = header.next;
+    let mut passed: u64 = 0;
     while at < s.len() {
-        let end = at + line_length(&s[at..]);
+        let line = line_at(s, at);
+        let end = line.end;
         if !is_record(&s[at..end]) {
-            return row;
+            return passed + 1;
         }
-        at = end + 2;
-        row += 1;
+        at = line.next;
+        passed += 1;
     }
     0
 }
@@ -113,7 +119,7 @@ fn spelled(s: &[u8]) -> u64
     let mut n: u64 = 0;
     let mut i = 0;
     while i < s.len() {
-        let digit = s[i] - 48;
+        let digit = s[i] - b'0';
         n = 10 * n + digit as u64;
         i += 1;
     }
@@ -123,31 +129,36 @@ fn spelled(s: &[u8]) -> u64
 // The blend with a good record's parts of its fuel more.
 fn add_record(b: Blend, l: &[u8]) -> Blended
     requires { ⌜ goodMixture (now l) ≡ true ⌝ }
-    ensures { λ r. ⌜ r ≡ shownBlend b (adding b (fuel-text (formulaOf (now (l .entry)))) (partsOf (now (l .entry)))) ⌝ }
+    ensures { λ r. ⌜ r ≡ shownBlend b (adding b (fuel-text (recordFormula (now (l .entry)))) (recordParts (now (l .entry)))) ⌝ }
 {
-    let n = field_length(l);
-    let parts = spelled(&l[n + 1..]);
-    add_fuel_text(b, &l[..n], parts)
+    let columns = split(l);
+    let formula = columns.formula;
+    let start = columns.start;
+    let end = columns.end;
+    let parts = spelled(&l[start..end]);
+    add_fuel_text(b, &l[..formula], parts)
 }
 
-// The blend of all records, or the first refusal with its record.
+// The blend of all records, which are good, or the first refusal with its record.
 fn add_records(s: &[u8]) -> Blended
-    requires { ⌜ (length (now s) ≤ 65536) × (firstBad goodMixture 1 (lines (drop 15 (now s))) ≡ none) ⌝ }
-    ensures { λ r. ⌜ r ≡ shownBlend emptyBlend (addingAll emptyBlend 1 (lines (drop 15 (now (s .entry))))) ⌝ }
+    requires { ⌜ firstBadRecord goodMixture (records (now s)) ≡ none ⌝ }
+    ensures { λ r. ⌜ r ≡ shownBlend emptyBlend (addingAll emptyBlend 1 (records (now (s .entry)))) ⌝ }
 {
+    let header = line_at(s, 0);
     let mut blend = empty_blend();
-    let mut at = FIRST_RECORD;
-    let mut row: u64 = 1;
+    let mut at = header.next;
+    let mut passed: u64 = 0;
     while at < s.len() {
-        let end = at + line_length(&s[at..]);
+        let line = line_at(s, at);
+        let end = line.end;
         let added = add_record(blend, &s[at..end]);
         let declined = added.refusal;
         if 0 < declined.number {
-            return refused_at(declined.number, row);
+            return refused_at(declined.number, passed + 1);
         }
         blend = added.blend;
-        at = end + 2;
-        row += 1;
+        at = line.next;
+        passed += 1;
     }
     Blended {
         refusal: Refusal {
@@ -173,12 +184,12 @@ pub fn sheet_answer(sheet: &[u8]) -> Limits
     ensures { λ r. ⌜ r ≡ shownLimits (sheetAnswer (now (sheet .entry))) ⌝ }
     ensures by_model { λ _. ⌜ ByModel (now (sheet .entry)) ⌝ }
 {
-    if !has_header(sheet) {
-        return no_limits(refusal::BAD_SHEET, 0);
+    if !is_headed(sheet, b"formula,parts") {
+        return no_limits(answer::BAD_SHEET, 0);
     }
-    let bad = first_bad(sheet);
+    let bad = first_bad_record(sheet);
     if 0 < bad {
-        return no_limits(refusal::BAD_SHEET, bad);
+        return no_limits(answer::BAD_SHEET, bad);
     }
     let all = add_records(sheet);
     let declined = all.refusal;

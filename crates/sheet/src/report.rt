@@ -1,11 +1,11 @@
 // A sheet's answer as text, put together in a line of its own and then copied to the lent room.
 ghost use mathlib.Core.Path.{_≡_};
-ghost use Prim.Native.Nat.{_+_, _≤_};
+ghost use Prim.Native.Nat.{_≤_};
 ghost use lib.ListN.{length, take};
-ghost use Rattle.text.specs.Room.{putAt};
+ghost use Rattle.text.specs.Internal.{Puts};
 ghost use Rattle.sheet.specs.Answer.{percent, limitsLine, refusalLine, answerLine, answerText, answerWritten, answerRoom};
+use answer::Refusal;
 use blend::Limits;
-use refusal::Refusal;
 use rounding::divide;
 use text::Written;
 use text::put;
@@ -14,9 +14,7 @@ use text::write_whole;
 
 // Puts hundredths of a percent as percent with two decimals into out at a position, and answers the position behind it.
 fn put_percent(out: &mut [u8], at: usize, n: u64) -> usize
-    requires { ⌜ at + length (percent n) ≤ length (now out) ⌝ }
-    ensures { λ r. ⌜ r ≡ at + length (percent n) ⌝ }
-    ensures room { λ r. ⌜ now (out .exit) ≡ putAt (now (out .entry)) at (percent n) ⌝ }
+    ensures { λ r. ⌜ Puts (now (out .entry)) at (percent n) (now (out .exit)) r ⌝ }
 {
     let percents = divide(n, 100);
     let tenths = divide(percents.remainder, 10);
@@ -27,9 +25,7 @@ fn put_percent(out: &mut [u8], at: usize, n: u64) -> usize
 }
 
 fn put_limits(out: &mut [u8], at: usize, lower: u64, upper: u64) -> usize
-    requires { ⌜ at + length (limitsLine lower upper) ≤ length (now out) ⌝ }
-    ensures { λ r. ⌜ r ≡ at + length (limitsLine lower upper) ⌝ }
-    ensures room { λ r. ⌜ now (out .exit) ≡ putAt (now (out .entry)) at (limitsLine lower upper) ⌝ }
+    ensures { λ r. ⌜ Puts (now (out .entry)) at (limitsLine lower upper) (now (out .exit)) r ⌝ }
 {
     let first = put(out, at, b"0,0,");
     let comma = put_percent(out, first, lower);
@@ -38,9 +34,7 @@ fn put_limits(out: &mut [u8], at: usize, lower: u64, upper: u64) -> usize
 }
 
 fn put_refusal(out: &mut [u8], at: usize, declined: Refusal) -> usize
-    requires { ⌜ at + length (refusalLine declined) ≤ length (now out) ⌝ }
-    ensures { λ r. ⌜ r ≡ at + length (refusalLine declined) ⌝ }
-    ensures room { λ r. ⌜ now (out .exit) ≡ putAt (now (out .entry)) at (refusalLine declined) ⌝ }
+    ensures { λ r. ⌜ Puts (now (out .entry)) at (refusalLine declined) (now (out .exit)) r ⌝ }
 {
     let comma = put_decimal(out, at, declined.number);
     let second = put(out, comma, b",");
@@ -49,9 +43,7 @@ fn put_refusal(out: &mut [u8], at: usize, declined: Refusal) -> usize
 }
 
 fn put_answer(out: &mut [u8], at: usize, answer: Limits) -> usize
-    requires { ⌜ at + length (answerLine answer) ≤ length (now out) ⌝ }
-    ensures { λ r. ⌜ r ≡ at + length (answerLine answer) ⌝ }
-    ensures room { λ r. ⌜ now (out .exit) ≡ putAt (now (out .entry)) at (answerLine answer) ⌝ }
+    ensures { λ r. ⌜ Puts (now (out .entry)) at (answerLine answer) (now (out .exit)) r ⌝ }
 {
     let declined = answer.refusal;
     if declined.number == 0 {

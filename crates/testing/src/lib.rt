@@ -2,14 +2,14 @@
 ghost use mathlib.Core.Path.{_≡_};
 ghost use mathlib.Core.Option.{some};
 ghost use Prim.Native.Nat.{_≤_};
-ghost use Rattle.refusal.specs.Outcome.{shownFigure, shownTemperature};
+ghost use Rattle.answer.specs.Outcome.{shownFigure, shownTemperature};
 ghost use Rattle.oxygen.specs.Admission.{oxygenCoefficient};
 ghost use Rattle.blend.specs.Fuel.{counts};
 ghost use Rattle.blend.specs.Blend.{adding, shownBlend, shownLimits};
 ghost use Rattle.limits.specs.FuelLimits.{fuelLimits, AsBlend};
 ghost use Rattle.flash.specs.Points.{byBonds, byClass};
 ghost use Rattle.curve.specs.Curve.{curve, Sound};
-ghost use Rattle.curve.specs.Questions.{lowerTemperatureLimit, flashByCurve};
+ghost use Rattle.ignition.specs.Questions.{lowerTemperatureLimit, flashByCurve};
 ghost use Rattle.analyser.specs.declared.Reading.the-variants.{Percent, Ppm, Overload};
 ghost use Rattle.analyser.specs.Reading.{methodOf, partsOf};
 ghost use Rattle.sheet.specs.Mixture.{sheetAnswer};
@@ -17,14 +17,14 @@ ghost use Rattle.sheet.specs.ByModel.{ByModel};
 ghost use Rattle.sheet.specs.Answer.{answerOf, answerWritten, answerRoom};
 use analyser::Method;
 use analyser::Reading;
+use answer::Figure;
+use answer::Refusal;
+use answer::Temperature;
 use blend::Blend;
 use blend::Blended;
 use blend::Limits;
 use bonds::Bonds;
-use formula::Atoms;
-use refusal::Figure;
-use refusal::Refusal;
-use refusal::Temperature;
+use elements::Atoms;
 use text::Written;
 
 #[no_mangle]
@@ -57,7 +57,7 @@ pub extern "C" fn jlt_flash_by_curve(
     ensures { λ r. ⌜ r ≡ shownTemperature (flashByCurve method fuel diffusion (curve (now (temperatures .entry)) (now (pressures .entry)))) ⌝ }
     ensures sound { λ _. ⌜ Sound (curve (now (temperatures .entry)) (now (pressures .entry))) ⌝ }
 {
-    curve::flash_by_curve(method, fuel, diffusion, temperatures, pressures)
+    ignition::flash_by_curve(method, fuel, diffusion, temperatures, pressures)
 }
 
 #[no_mangle]
@@ -69,7 +69,7 @@ pub extern "C" fn jlt_lower_temperature_limit(
     ensures { λ r. ⌜ r ≡ shownTemperature (lowerTemperatureLimit fuel (curve (now (temperatures .entry)) (now (pressures .entry)))) ⌝ }
     ensures sound { λ _. ⌜ Sound (curve (now (temperatures .entry)) (now (pressures .entry))) ⌝ }
 {
-    curve::lower_temperature_limit(fuel, temperatures, pressures)
+    ignition::lower_temperature_limit(fuel, temperatures, pressures)
 }
 
 #[no_mangle]
@@ -105,7 +105,8 @@ pub extern "C" fn jlt_add_fuel(blend: Blend, fuel: Atoms, parts: u64) -> Blended
 
 #[no_mangle]
 pub extern "C" fn jlt_fuel_limits_at(fuel: Atoms, temperature: i64) -> Limits
-    ensures { λ r. ⌜ r ≡ shownLimits (fuelLimits (counts fuel) (some temperature)) ⌝ }
+    ensures { λ r. ⌜ r ≡ shownLimits (fuelLimits (some temperature) fuel) ⌝ }
+    ensures at_most { λ r. ⌜ (r .lower ≤ 10000) × (r .upper ≤ 10000) ⌝ }
     ensures as_blend { λ _. ⌜ AsBlend (counts fuel) (some temperature) ⌝ }
 {
     limits::fuel_limits_at(fuel, temperature)

@@ -1,5 +1,5 @@
 -- Laws of decimal digits: the last digit and those before it, and the digits of numbers below 1000.
-use mathlib.Core.Path.{_≡_, refl, sym, ap, _∙_}
+use mathlib.Core.Path.{_≡_, refl, sym, ap, ap₂, _∙_}
 use mathlib.Core.Bool.{Bool, true, false, and-false}
 use mathlib.Core.List.{List, [], _∷_, _++_, append-assoc, append-nil}
 use Prim.Native.Nat.{ℕ, zero, suc, _+_, _*_, _-_, _≤_, _<_, _/_, _%_, _^_}
@@ -12,7 +12,7 @@ use lib.Seq.{set-split, drop-at, length-take-le}
 use lib.Dec.{leb, ltb}
 use borrow.Author.Tests.{lt-ltb, le-ltb, ltb-false, le-leb, lt-leb, leb-true}
 use Rattle.text.specs.Decimal.{decimal, decimalBy, digitFrom}
-use Rattle.refusal.proofs.Tests.{if-true, if-false, both}
+use Rattle.answer.proofs.Tests.{if-true, if-false, both}
 
 by-one : (k n : ℕ) → n < 10 → decimalBy (suc k) n ≡ (48 + n) ∷ []
 by-one k n l = if-true (ltb n 10) ((48 + n) ∷ []) (decimalBy k (n / 10) ++ (48 + n % 10) ∷ []) (lt-ltb n 10 l)
@@ -39,6 +39,14 @@ decimal-one n l = by-one n n l
 pub decimal-more : (n : ℕ) → 10 ≤ n → decimal n ≡ decimal (n / 10) ++ (48 + n % 10) ∷ []
 unfolding decimal
 decimal-more n l = by-more n n l ∙ ap (λ (w : List ℕ). w ++ (48 + n % 10) ∷ []) (enough n (suc (n / 10)) (n / 10) (omega arith) (omega arith))
+
+-- a digit's byte behind those of n
+pub decimal-next : (n b : ℕ) → 1 ≤ n → 48 ≤ b → b ≤ 57 → decimal (n * 10 + (b - 48)) ≡ decimal n ++ b ∷ []
+decimal-next n b l h k =
+    let m = n * 10 + (b - 48) in
+    let front : m / 10 ≡ n = omega arith in
+    let last : 48 + m % 10 ≡ b = omega arith in
+    decimal-more m (omega arith) ∙ ap₂ (λ (x y : ℕ). decimal x ++ y ∷ []) front last
 
 pub decimal-two : (n : ℕ) → 10 ≤ n → n < 100 → decimal n ≡ (48 + n / 10) ∷ (48 + n % 10) ∷ []
 decimal-two n l h = decimal-more n l ∙ ap (λ (w : List ℕ). w ++ (48 + n % 10) ∷ []) (decimal-one (n / 10) (omega arith))

@@ -1,7 +1,5 @@
 pub mod Rooms
 pub mod Decimals
 pub mod Beginnings
-pub mod Lines
-pub mod Fields
-pub mod Sheets
+pub mod Readers
 pub mod Writings

@@ -1,5 +1,5 @@
 -- Laws of text put into a room: what it then holds, byte by byte and piece by piece.
-use mathlib.Core.Path.{_≡_, refl, sym, ap, ap₂, _∙_}
+use mathlib.Core.Path.{_≡_, sym, ap, ap₂, _∙_}
 use mathlib.Core.List.{List, [], _++_, append-assoc}
 use Prim.Native.Nat.{ℕ, _+_, _≤_, _<_}
 use native.Mathlib.Decide.{decLe}
@@ -10,6 +10,7 @@ use borrow.Author.Tests.{le-leb, lt-leb}
 use lib.ListN.{length, take, drop, set, getD, length-append, length-drop, take-append-drop}
 use lib.Seq.{take-length, take-append-seam, take-at, length-take-le, drop-append-add, drop-drop, paste, paste-suc}
 use Rattle.text.specs.Room.{putAt, behind}
+use Rattle.text.specs.Internal.{Puts}
 
 module _ (room : List ℕ) (at : ℕ) (s : List ℕ) where
   pub put-fits : at + length s ≤ length room → putAt room at s ≡ take at room ++ (s ++ drop (at + length s) room)
@@ -65,61 +66,30 @@ put-twice room at s t l =
     ∙ ap (λ (w : List ℕ). take at room ++ w) (sym (append-assoc s t (drop (at + length (s ++ t)) room)))
     ∙ sym (put-fits room at (s ++ t) (omega (arith, length-append s t))))
 
--- the first n bytes of a room of that size are the text t
-pub record Holds (size : ℕ) (t out : List ℕ) (n : ℕ) : Type 0 where
-  pub sized : length out ≡ size
-  pub long : n ≡ length t
-  pub within : n ≤ size
-  pub starts : take n out ≡ t
+-- PIECES put into a room: none, one, and one behind another
+pub puts-none : (room : List ℕ) (at : ℕ) → Puts room at [] room at
+puts-none room at = record { ends = λ l. sym (add-zero at); gives = λ l. sym (put-none room at (omega arith)) }
 
-pub holds-none : (out : List ℕ) → Holds (length out) [] out 0
-holds-none out = record { sized = refl; long = refl; within = omega arith; starts = refl }
+pub puts-one : {room : List ℕ} {at : ℕ} {s out : List ℕ} {r : ℕ} → (r ≡ behind room at s) × (out ≡ putAt room at s) → Puts room at s out r
+puts-one {room} {at} {s} (e, f) = record { ends = λ l. e ∙ behind-fits room at s l; gives = λ l. f }
 
--- a piece put behind the text
-pub holds-more : {size : ℕ} {t out : List ℕ} {n : ℕ} (s : List ℕ) → Holds size t out n → n + length s ≤ size → Holds size (t ++ s) (putAt out n s) (behind out n s)
-holds-more {size} {t} {out} {n} s h l =
-    let room : n + length s ≤ length out = omega (arith, h .sized) in
-    let front : length (take n out) ≡ n = length-take-le n out (omega arith) in
-    rw (put-fits out n s room, behind-fits out n s room)
-    (record {
-      sized = ap length (sym (put-fits out n s room)) ∙ put-length out n s ∙ h .sized;
-      long = omega (arith, h .long, length-append t s);
-      within = l;
-      starts = ap (take (n + length s)) (sym (append-assoc (take n out) s (drop (n + length s) out)))
-          ∙ take-at (take n out ++ s) (drop (n + length s) out) (n + length s) (omega (arith, length-append (take n out) s))
-          ∙ ap (λ (w : List ℕ). w ++ s) (h .starts);
-    })
-
--- PIECES. s put into a room at a place: r is the place behind it, and out the room with it.
-pub record Puts (room : List ℕ) (at : ℕ) (s out : List ℕ) (r : ℕ) : Type 0 where
-  pub ends : r ≡ at + length s
-  pub gives : out ≡ putAt room at s
-
--- what holds a whole holds its first piece
-pub first-fits : (at n : ℕ) (s t : List ℕ) → at + length (s ++ t) ≤ n → at + length s ≤ n
-first-fits at n s t l = omega (arith, length-append s t)
-
-pub puts-one : {room : List ℕ} {at : ℕ} {s out : List ℕ} {r : ℕ} → at + length s ≤ length room → r ≡ behind room at s → out ≡ putAt room at s → Puts room at s out r
-puts-one {room} {at} {s} l e f = record { ends = e ∙ behind-fits room at s l; gives = f }
-
--- a piece behind another
-module _ {room : List ℕ} {at : ℕ} {s mid : List ℕ} {k : ℕ} (h : Puts room at s mid k) (t : List ℕ) (l : at + length (s ++ t) ≤ length room) where
-  pub puts-room : k + length t ≤ length mid
-  puts-room = omega (arith, length-append s t, h .ends, ap length (h .gives), put-length room at s)
-
-  pub puts-then : {out : List ℕ} {r : ℕ} → Puts mid k t out r → Puts room at (s ++ t) out r
-  puts-then g = record {
-    ends = omega (arith, length-append s t, h .ends, g .ends);
-    gives = g .gives ∙ rw (h .gives, h .ends) (put-twice room at s t (omega (arith, length-append s t)));
-  }
-
-  pub puts-next : {out : List ℕ} {r : ℕ} → r ≡ behind mid k t → out ≡ putAt mid k t → Puts room at (s ++ t) out r
-  puts-next e f = puts-then (puts-one puts-room e f)
+pub puts-then : {room : List ℕ} {at : ℕ} {s mid : List ℕ} {k : ℕ} {t out : List ℕ} {r : ℕ} → Puts room at s mid k → Puts mid k t out r → Puts room at (s ++ t) out r
+puts-then {room} {at} {s} {mid} {k} {t} {out} {r} h g = record { ends = λ l. both l .0; gives = λ l. both l .1 }
+  where
+    both : at + length (s ++ t) ≤ length room → (r ≡ at + length (s ++ t)) × (out ≡ putAt room at (s ++ t))
+    both l =
+        let sum = length-append s t in
+        let first : at + length s ≤ length room = omega arith in
+        let place : k ≡ at + length s = h .ends first in
+        let given : mid ≡ putAt room at s = h .gives first in
+        let second : k + length t ≤ length mid = omega (arith, ap length given, put-length room at s) in
+        (omega (arith, g .ends second), g .gives second ∙ rw (given, place) (put-twice room at s t (omega arith)))
 
 -- a text put at the start of a room is its first bytes
 pub puts-starts : {room s out : List ℕ} {r : ℕ} → length s ≤ length room → Puts room 0 s out r → (length out ≡ length room) × (r ≤ length room) × (take r out ≡ s)
-puts-starts {room} {s} l h = (
-  ap length (h .gives) ∙ put-length room 0 s,
-  omega (arith, h .ends),
-  rw (h .ends, h .gives, put-fits room 0 s (omega arith)) (rw (zero-add (length s)) (take-append-seam s (drop (length s) room))),
-)
+puts-starts {room} {s} l h =
+    let fits : 0 + length s ≤ length room = omega arith in (
+      ap length (h .gives fits) ∙ put-length room 0 s,
+      omega (arith, h .ends fits),
+      rw (h .ends fits, h .gives fits, put-fits room 0 s fits) (rw (zero-add (length s)) (take-append-seam s (drop (length s) room))),
+    )

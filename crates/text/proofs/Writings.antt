@@ -6,7 +6,7 @@ use native.Mathlib.Decide.{decLt}
 use native.Mathlib.Omega.{arith}
 use borrow.Author.Tests.{lt-ltb, le-ltb}
 use lib.ListN.{length}
-use Rattle.refusal.specs.Outcome.{Outcome, refused, answered, refusal}
+use Rattle.answer.specs.Outcome.{Outcome, refused, answered, refusal}
 use Rattle.text.specs.Room.{putAt}
 use Rattle.text.specs.Writing.{placed, shownLength, holding}
 use Rattle.text.proofs.Rooms.{put-length}

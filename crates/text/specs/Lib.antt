@@ -1,7 +1,7 @@
 pub mod Bytes
 pub mod Decimal
 pub mod Beginning
+pub mod Reader
 pub mod Room
 pub mod Writing
-pub mod Lines
-pub mod Sheet
+pub mod Internal

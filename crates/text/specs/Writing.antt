@@ -3,8 +3,8 @@ use mathlib.Core.List.{List, []}
 use Prim.Native.Nat.{ℕ}
 use lib.Dec.{ltb}
 use lib.ListN.{length}
-use Rattle.refusal.specs.Numbers.{noRoom}
-use Rattle.refusal.specs.Outcome.{Outcome, refused, answered, refuse, refusalOf, valueOf}
+use Rattle.answer.specs.Numbers.{noRoom}
+use Rattle.answer.specs.Outcome.{Outcome, refused, answered, refuse, refusalOf, valueOf}
 use Rattle.text.specs.declared.Written.{Written}
 use Rattle.text.specs.Room.{putAt}
 

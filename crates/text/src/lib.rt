@@ -1,17 +1,12 @@
-// Bytes of text: reading one, the lines and fields of a text, and putting text and numbers into a lent buffer.
+// Bytes of text: reading one, and putting text and numbers into a lent buffer.
 ghost use mathlib.Core.Path.{_≡_};
 ghost use Prim.Native.Nat.{_+_, _≤_, _<_};
 ghost use lib.ListN.{length, getD, drop};
+ghost use Rattle.text.specs.Bytes.{byte};
 ghost use Rattle.text.specs.Decimal.{decimal, digitFrom};
 ghost use Rattle.text.specs.Room.{putAt, behind};
 ghost use Rattle.text.specs.Writing.{placed, shownLength, holding};
-use refusal::Refusal;
-
-mod csv;
-
-pub use csv::field_length;
-pub use csv::is_plain_line;
-pub use csv::line_length;
+use answer::Refusal;
 
 // The length of a text that was written, or a refusal and 0.
 #[repr(C)]
@@ -34,7 +29,7 @@ pub fn is_digit_from(from: u8, b: u8) -> bool
     if b < from {
         return false;
     }
-    b <= 57
+    b <= b'9'
 }
 
 // Copies s to a position of out where it fits.
@@ -72,7 +67,7 @@ pub fn write_whole(out: &mut [u8], s: &[u8]) -> Written
     if s.len() > out.len() {
         return Written {
             refusal: Refusal {
-                number: refusal::NO_ROOM,
+                number: answer::NO_ROOM,
                 place: 0,
             },
             length: 0,
@@ -91,9 +86,9 @@ pub fn write_whole(out: &mut [u8], s: &[u8]) -> Written
 // The byte of a digit.
 fn digit(n: u64) -> u8
     requires { ⌜ n < 10 ⌝ }
-    ensures { λ r. ⌜ r ≡ 48 + n ⌝ }
+    ensures { λ r. ⌜ r ≡ byte "0" + n ⌝ }
 {
-    (48 + n) as u8
+    b'0' + n as u8
 }
 
 // A number's decimal digits, at the end of the array from a position on.

@@ -1,7 +1,7 @@
 //! The vapour curve: the lower temperature limit, and flash and fire points by formula (35).
 
 use crate::formula::Atoms;
-use crate::limits::{admit, fuel_limits_at, FIRE_POINT, OXYGEN};
+use crate::limits::{admit, fuel_limits_at, FIRE_POINT, FIT_TEMPERATURE, OXYGEN};
 use crate::refusal::{refuse, refuse_if, Answer};
 
 /// The right sides of formula (35): closed cup, open cup, fire point.
@@ -11,7 +11,7 @@ const UNITS: u64 = 100 * 1_000 * 10_000 * 4;
 
 /// pressure >= phi/100 of 101,300 Pa, phi the lower limit as answered at 25 degrees.
 pub fn lower_temperature_limit(fuel: &Atoms, temperatures: &[i64], pressures: &[u64]) -> Answer<i64> {
-    let lower = fuel_limits_at(fuel, 2_500)?.lower;
+    let lower = fuel_limits_at(fuel, FIT_TEMPERATURE)?.lower;
     smallest(temperatures, pressures, |_, pressure| pressure * 10_000 >= lower * 101_300)
 }
 

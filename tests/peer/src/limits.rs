@@ -4,6 +4,9 @@ use crate::blend::{Blend, USUAL_TEMPERATURE};
 use crate::formula::{read, within_most, Atoms};
 use crate::refusal::{refuse, refuse_if, round_div, Answer};
 
+/// 25 degrees: the temperature at which the limits' formulas were fitted.
+pub const FIT_TEMPERATURE: i64 = 2_500;
+
 /// Most atoms of each element that a question admits.
 pub const OXYGEN: Atoms = [200, 200, 200, 200, 200, 200, 200, 200, 200, 0];
 pub const LIMITS: Atoms = [200, 200, 200, 200, 0, 0, 0, 1, 0, 0];

@@ -1,68 +1,95 @@
--- `measure` meets its contract: what each test said, in the order of the definition.
+-- `measure` meets its contract: the tests of the definition, one after the other.
 use mathlib.Core.Path.{_≡_, sym, ap, _∙_}
 use mathlib.Core.Bool.{true}
+use Prim.Native.Nat.{ℕ, _*_, _^_}
+use native.Mathlib.Omega.{arith}
+use lib.Ieee.{le}
 use borrow.Author.Needs.{needs}
 use borrow.Author.Tests.{not-true, not-false}
-use Rattle.refusal.specs.Outcome.{shownFigure}
-use Rattle.analyser.specs.Reading.{amount, upTo, goodMethod}
-use Rattle.analyser.proofs.Answers.{bad-method, bad-reading, good-reading}
-use Rattle.analyser.proofs.Admitted.{up-to-amount, amount-is, ceiling-is, limit-is, most-parts}
+use Rattle.answer.specs.declared.Figure.{Figure}
+use Rattle.answer.specs.Outcome.{answered, shownFigure}
+use Rattle.rounding.specs.Fraction.{atMost}
+use Rattle.analyser.specs.Reading.{amount, upTo, goodMethod, converted, measured}
+use Rattle.analyser.specs.Internal.{Scaled}
+use Rattle.analyser.proofs.Order.{le-is}
+use Rattle.analyser.proofs.Admitted.{up-to-amount, ceiling-is, limit-is, most-parts, figure-most}
 use Rattle.analyser.proofs.measure.Statement.{statement}
 use Rattle.analyser.proofs.measure.Tie as tie
 
-good-is : (c : tie.Else1) → goodMethod (amount (c .before .before .args .top)) (c .before .before .args .method) ≡ true
-good-is c = sym (c .before .is-good .ensures) ∙ not-false (c .before .is-good .result) (c .if1 .left)
+abbrev value : Figure → ℕ
+value f = f .value
 
-up-to-is : (c : tie.Else2) → let a = c .before .before .before .before .args in upTo (a .x) (amount (a .method .ceiling)) ≡ true
-up-to-is c = sym (c .before .is-up-to .ensures) ∙ not-false (c .before .is-up-to .result) (c .if2 .left)
+good : (c : tie.Else1) → goodMethod (amount (c .before .before .args .top)) (c .before .before .args .method) ≡ true
+good c = sym (c .before .is-good .ensures) ∙ not-false _ (c .if1 .left)
 
-is-good-requires : tie.Need-is-good-requires
-is-good-requires c κs = search needs
+abbrev start : tie.Else2 → tie.Start
+start c = c .before .before .before .before
 
-refused-figure-requires : tie.Need-refused-figure-requires
-refused-figure-requires c κs = search needs
+within : (c : tie.Else2) → upTo (start c .args .x) (amount (start c .args .method .ceiling)) ≡ true
+within c = sym (c .before .is-up-to .ensures) ∙ not-false _ (c .if2 .left)
+
+scaled : (c : tie.Else2) → Scaled (start c .args .x) (start c .args .factor) (start c .args .twos)
+scaled c = record {
+  scale = start c .pre .0;
+  is-amount = up-to-amount _ _ (within c);
+  most = most-parts (start c .args .top) (start c .args .method) (good (c .before .before)) _ _ (start c .pre .1) (within c);
+}
+
+-- the floats' test of the limit is that of the exact values
+limit : (c : tie.Else2) → let a = start c .args in atMost (amount (a .method .limit)) (amount (a .x)) ≡ le (a .method .limit) (a .x)
+limit c = sym (le-is _ _ (limit-is (start c .args .top) (start c .args .method) (good (c .before .before))) (scaled c .is-amount))
 
 returns : tie.Need-returns
+unfolding measured
 returns c =
     let g = c .before .before in
-    c .refused-figure .ensures ∙ ap shownFigure (bad-method _ _ _ _ (sym (g .is-good .ensures) ∙ not-true (g .is-good .result) (c .before .if1 .taken)))
-
-is-up-to-requires : tie.Need-is-up-to-requires
-is-up-to-requires c κs = ceiling-is _ _ (good-is c)
-
-refused-figure-requires-2 : tie.Need-refused-figure-requires-2
-refused-figure-requires-2 c κs = search needs
+    let e = c .refused-figure .ensures in
+    rw (sym (g .is-good .ensures) ∙ not-true _ (c .before .if1 .taken)) (e, omega (arith, ap value e))
 
 returns-2 : tie.Need-returns-2
+unfolding measured
 returns-2 c =
     let u = c .before .before in
-    c .refused-figure2 .ensures
-    ∙ ap shownFigure (bad-reading _ _ _ _ (good-is (u .before)) (sym (u .is-up-to .ensures) ∙ not-true (u .is-up-to .result) (c .before .if2 .taken)))
+    let e = c .refused-figure2 .ensures in
+    rw (good (u .before), sym (u .is-up-to .ensures) ∙ not-true _ (c .before .if2 .taken)) (e, omega (arith, ap value e))
 
-to-parts-requires : tie.Need-to-parts-requires
-to-parts-requires c κs =
-    let good = good-is (c .before .before) in
-    let pre = c .before .before .before .before .pre in (
-      limit-is _ _ good,
-      record {
-        scale = pre .0;
-        is-amount = up-to-amount _ _ (up-to-is c);
-        most = most-parts _ _ good _ (up-to-is c) _ _ _ (amount-is (c .before .before .before .before .args .top)) (pre .1 .million);
-      },
-    )
+-- the parts by the definition
+parts : (c : tie.After-whole-parts) → let a = start (c .before .before .before) .args in c .whole-parts .result ≡ converted (a .factor * 2 ^ a .twos) (a .method) (a .x)
+unfolding converted
+parts c = let i = c .before .before .before in rw (limit i ∙ c .before .if3 .taken) (c .whole-parts .ensures)
 
 returns-3 : tie.Need-returns-3
-returns-3 c = ap shownFigure (good-reading _ _ _ _ (good-is (c .before .before .before)) (up-to-is (c .before)) _ (c .to-parts .ensures))
+unfolding measured
+returns-3 c =
+    let w = c .before in
+    let i = w .before .before .before in
+    let e = c .answered-figure .ensures in
+    rw (good (i .before .before), within i)
+    (e ∙ ap (λ (n : ℕ). shownFigure (answered n)) (parts w), omega (arith, ap value e, w .whole-parts .ensures, figure-most _ (scaled i .most)))
+
+none : (c : tie.Else3) → let a = start (c .before .before) .args in 0 ≡ converted (a .factor * 2 ^ a .twos) (a .method) (a .x)
+unfolding converted
+none c = rw (limit (c .before .before) ∙ c .if3 .left)
+
+returns-4 : tie.Need-returns-4
+unfolding measured
+returns-4 c =
+    let i = c .before .before .before in
+    let e = c .answered-figure2 .ensures in
+    rw (good (i .before .before), within i) (e ∙ ap (λ (n : ℕ). shownFigure (answered n)) (none (c .before)), omega (arith, ap value e))
 
 pub measure-spec : {M : Type 1} → statement M
 measure-spec =
     tie.close
     (tie.spec
-    is-good-requires
-    refused-figure-requires
+    (λ c κs. search needs)
+    (λ c κs. search needs)
     returns
-    is-up-to-requires
-    refused-figure-requires-2
+    (λ c κs. ceiling-is (c .before .before .args .top) (c .before .before .args .method) (good c))
+    (λ c κs. search needs)
     returns-2
-    to-parts-requires
-    returns-3)
+    (λ c κs. scaled (c .before .before))
+    (λ c κs. search needs)
+    returns-3
+    (λ c κs. search needs)
+    returns-4)

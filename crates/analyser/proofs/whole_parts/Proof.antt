@@ -19,33 +19,6 @@ known : (c : tie.Else1) → let a = c .before .args in let b = toBits binary64 (
     Shifted (exponent b) (fraction b) (a .factor) (a .twos) (figure (whole (a .factor * 2 ^ a .twos) ⊠ amount (a .x)))
 known c = facts (c .before .args .x) (c .before .args .factor) (c .before .args .twos) (held (c .before)) (c .before .pre) (omega arith)
 
-float-to-bits-bits : tie.Need-float-to-bits-bits
-float-to-bits-bits c = no-nan _ (c .pre .is-amount)
-
-add-if1 : tie.Need-add-if1
-add-if1 c = omega (arith, c .pre .scale .small-twos)
-
-returns : tie.Need-returns
-returns c = below-half _ _ _ (held (c .before)) (c .before .pre) (omega arith)
-
-add-significand : tie.Need-add-significand
-add-significand c = search needs
-
-sub-shift : tie.Need-sub-shift
-sub-shift c = omega (arith, known c)
-
-sub-shift-2 : tie.Need-sub-shift-2
-sub-shift-2 c = omega (arith, known c)
-
-mul-round-div : tie.Need-mul-round-div
-mul-round-div c = omega (arith, known c)
-
-shl-round-div : tie.Need-shl-round-div
-shl-round-div c = search needs
-
-round-div-requires : tie.Need-round-div-requires
-round-div-requires c κs = search needs
-
 returns-2 : tie.Need-returns-2
 returns-2 c = c .round-div .ensures .0 ∙ known (c .before) .is _ _ (omega arith) (omega arith)
 
@@ -53,13 +26,13 @@ pub whole-parts-spec : {M : Type 1} → statement M
 whole-parts-spec =
     tie.close
     (tie.spec
-    float-to-bits-bits
-    add-if1
-    returns
-    add-significand
-    sub-shift
-    sub-shift-2
-    mul-round-div
-    shl-round-div
-    round-div-requires
+    (λ c. no-nan _ (c .pre .is-amount))
+    (λ c. omega (arith, c .pre .scale .small-twos))
+    (λ c. below-half _ _ _ (held (c .before)) (c .before .pre) (omega arith))
+    (λ c. search needs)
+    (λ c. omega (arith, known c))
+    (λ c. omega (arith, known c))
+    (λ c. omega (arith, known c))
+    (λ c. search needs)
+    (λ c κs. search needs)
     returns-2)

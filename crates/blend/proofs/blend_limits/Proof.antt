@@ -1,6 +1,6 @@
 -- `blend_limits` meets its contract: with none named, the usual temperature is meant.
 use borrow.Author.Needs.{needs}
-use Rattle.blend.specs.Blend.{asking}
+use Rattle.blend.specs.Blend.{telling, asking}
 use Rattle.blend.proofs.blend_limits.Statement.{statement}
 use Rattle.blend.proofs.blend_limits.Tie as tie
 
@@ -8,7 +8,7 @@ blend-limits-at-requires : tie.Need-blend-limits-at-requires
 blend-limits-at-requires c κs = search needs
 
 returns : tie.Need-returns
-unfolding asking
+unfolding asking telling
 returns c = c .blend-limits-at .ensures
 
 pub blend-limits-spec : {M : Type 1} → statement M

@@ -1,73 +1,99 @@
--- `blend_limits_at` meets its contract: one law for each answer.
-use borrow.Author.Needs.{needs}
-use borrow.Author.Tests.{not-true, not-false}
+-- `blend_limits_at` meets its contract: the tests of the definition, one after the other; and what is answered is at most 100.00 %.
 use mathlib.Core.Path.{_≡_, sym, ap, _∙_}
-use mathlib.Core.Bool.{true}
-use Prim.Native.Nat.{ℕ}
+use mathlib.Core.Bool.{true, false}
+use Prim.Native.Nat.{ℕ, _≤_}
 use native.Mathlib.Omega.{arith}
+use lib.Dec.{eqb}
+use lib.IntN.{natAbs}
 use mir.Facts.{toZ-ofZ}
-use Rattle.refusal.specs.Outcome.{answered}
-use Rattle.blend.specs.Blend.{within, bothAt, shownLimits}
-use Rattle.blend.specs.Held.{gasOr}
-use Rattle.blend.proofs.Temperatures.{gas-outside, gas-inside}
+use borrow.Author.Needs.{needs}
+use borrow.Author.Tests.{not-true, not-false, eq-eqb, ne-eqb}
+use Rattle.answer.specs.Outcome.{answered}
+use Rattle.answer.proofs.Outside.{inside-is}
+use Rattle.blend.specs.declared.Limits.{Limits}
+use Rattle.blend.specs.Temperature.{gasOutside}
+use Rattle.blend.specs.Blend.{within, limitsAt, telling, asking, shownLimits}
 use Rattle.blend.proofs.Bounds.{within-facts}
-use Rattle.blend.proofs.Answers.{ask-outside, ask-empty, ask-temperature, ask-done}
+use Rattle.blend.proofs.Figures.{lower-most, upper-most}
 use Rattle.blend.proofs.blend_limits_at.Statement.{statement}
 use Rattle.blend.proofs.blend_limits_at.Tie as tie
+
+abbrev Most : Limits → Type 0
+Most r = (r .lower ≤ 10000) × (r .upper ≤ 10000)
+
+-- with a refusal both limits are 0
+none : (r : Limits) (n p : ℕ) → r ≡ record { refusal = record { number = n; place = p }; lower = 0; upper = 0 } → Most r
+none r n p e = rw e (omega arith, omega arith)
+
+beyond : (c : tie.Then1) → within (c .before .before .args .b) ≡ false
+beyond c = sym (c .before .is-within .ensures) ∙ not-true _ (c .if1 .taken)
 
 inside : (c : tie.Else1) → within (c .before .before .args .b) ≡ true
 inside c = sym (c .before .is-within .ensures) ∙ not-false _ (c .if1 .left)
 
-number : (c : tie.After-gas-temperature) → c .gas-temperature .result ≡ gasOr (c .before .before .before .before .before .args .temperature)
-number c = rw (toZ-ofZ (c .before .before .before .before .before .fits .temperature)) at (c .gas-temperature .ensures)
-
-is-within-requires : tie.Need-is-within-requires
-is-within-requires c κs = search needs
-
-no-limits-requires : tie.Need-no-limits-requires
-no-limits-requires c κs = search needs
+gas : (c : tie.After-is-outside-signed) → c .is-outside-signed .result ≡ gasOutside (c .before .before .before .before .before .args .temperature)
+gas c = rw (toZ-ofZ (c .before .before .before .before .before .fits .temperature)) at (c .is-outside-signed .ensures)
 
 returns : tie.Need-returns
-returns c = c .no-limits .ensures ∙ ask-outside _ _ (sym (c .before .before .is-within .ensures) ∙ not-true _ (c .before .if1 .taken))
-
-no-limits-requires-2 : tie.Need-no-limits-requires-2
-no-limits-requires-2 c κs = search needs
+unfolding asking
+returns c = let e = c .no-limits .ensures in rw (beyond (c .before)) (e, none _ _ _ e)
 
 returns-2 : tie.Need-returns-2
-returns-2 c = c .no-limits2 .ensures ∙ ask-empty _ _ (inside (c .before .before .before)) (omega arith)
+unfolding asking
+returns-2 c =
+    let i = c .before .before .before in
+    let e = c .no-limits2 .ensures in
+    rw (inside i, eq-eqb (i .before .before .args .b .total) 0 (omega arith)) (e, none _ _ _ e)
 
-gas-temperature-requires : tie.Need-gas-temperature-requires
-gas-temperature-requires c κs = search needs
-
-no-limits-requires-3 : tie.Need-no-limits-requires-3
-no-limits-requires-3 c κs = search needs
+module _ (c : tie.Else2) where
+  some : eqb (c .before .before .before .before .args .b .total) 0 ≡ false
+  some = ne-eqb (c .before .before .before .before .args .b .total) 0 (λ z. omega arith)
 
 returns-3 : tie.Need-returns-3
+unfolding asking telling
 returns-3 c =
-    let g = c .before .before in
-    c .no-limits3 .ensures ∙ ask-temperature _ _ (inside (g .before .before .before)) (omega arith) (gas-outside _ _ (number g) (omega arith))
+    let i = c .before .before .before in
+    let e = c .no-limits3 .ensures in
+    rw (inside (i .before .before), some i, sym (gas (c .before .before)) ∙ c .before .if3 .taken) (e, none _ _ _ e)
+
+warm : (c : tie.Else3) → gasOutside (c .before .before .before .before .before .before .args .temperature) ≡ false
+warm c = sym (gas (c .before)) ∙ c .if3 .left
+
+module _ (c : tie.After-size) where
+  sized : c .size .result ≡ natAbs (c .before .before .before .before .before .before .before .args .temperature)
+  sized = rw (toZ-ofZ (c .before .before .before .before .before .before .before .fits .temperature)) at (c .size .ensures)
+
+  admitted : c .size .result ≤ 20000
+  admitted = omega (arith, sized, inside-is 20000 _ (warm (c .before)) .1)
 
 limits-from-requires : tie.Need-limits-from-requires
-limits-from-requires c κs = (within-facts _ (inside (c .before .before .before .before)), omega arith, omega arith)
+limits-from-requires c κs =
+    let i = c .before .before .before .before .before in
+    (within-facts _ (inside i), omega arith, admitted c)
 
 returns-4 : tie.Need-returns-4
+unfolding asking telling
 returns-4 c =
-    let g = c .before .before in
-    let b = g .before .before .before .before .before .args .b in
-    let k = gas-inside _ _ (number g) (omega arith) in
-    c .limits-from .ensures ∙ ap (λ (t : ℕ). shownLimits (answered (bothAt b t))) (k .1) ∙ ask-done _ _ (inside (g .before .before .before)) (omega arith) (k .0)
+    let z = c .before in
+    let i = z .before .before .before in
+    let b = i .before .before .before .before .args .b in
+    let w = within-facts _ (inside (i .before .before)) in
+    let made = c .limits-from .ensures in
+    let most : Most (c .limits-from .result) = rw made (lower-most b (z .size .result) w (omega arith) (admitted z), upper-most b (z .size .result) w (omega arith) (admitted z)) in
+    rw (inside (i .before .before), some i, warm (z .before)) (made ∙ ap (λ (t : ℕ). shownLimits (answered (limitsAt b t))) (sized z), most)
 
 pub blend-limits-at-spec : {M : Type 1} → statement M
 blend-limits-at-spec =
     tie.close
     (tie.spec
-    is-within-requires
-    no-limits-requires
+    (λ c κs. search needs)
+    (λ c κs. search needs)
     returns
-    no-limits-requires-2
+    (λ c κs. search needs)
     returns-2
-    gas-temperature-requires
-    no-limits-requires-3
+    (λ c κs. search needs)
+    (λ c κs. search needs)
     returns-3
+    (λ c κs. search needs)
     limits-from-requires
     returns-4)

@@ -1,27 +1,34 @@
 -- `is_within` meets its contract: the three tests of the definition, one after the other.
-use borrow.Author.Needs.{needs}
-use borrow.Author.Tests.{not-true, not-false}
-use mathlib.Core.Path.{sym, _∙_}
+use mathlib.Core.Path.{_≡_, sym, _∙_}
 use native.Mathlib.Omega.{arith}
-use Rattle.blend.proofs.Bounds.{over-total, outside-lower, by-upper}
+use borrow.Author.Needs.{needs}
+use borrow.Author.Tests.{le-leb, lt-leb, not-true, not-false}
+use Rattle.blend.specs.Blend.{sumWithin, within}
 use Rattle.blend.proofs.is_within.Statement.{statement}
 use Rattle.blend.proofs.is_within.Tie as tie
 
 returns : tie.Need-returns
-returns c = over-total _ (omega arith)
-
-sum-within-requires : tie.Need-sum-within-requires
-sum-within-requires c κs = search needs
+unfolding within
+returns c = rw (lt-leb (c .before .args .b .total) 1000000 (omega arith))
 
 returns-2 : tie.Need-returns-2
-returns-2 c = outside-lower _ (omega arith) (sym (c .before .sum-within .ensures) ∙ not-true _ (c .if2 .taken))
-
-sum-within-requires-2 : tie.Need-sum-within-requires-2
-sum-within-requires-2 c κs = search needs
+unfolding within sumWithin
+returns-2 c =
+    let v = c .before .before .before .args .b .total in
+    rw (le-leb v 1000000 (omega arith), sym (c .before .sum-within .ensures) ∙ not-true _ (c .if2 .taken))
 
 returns-3 : tie.Need-returns-3
-returns-3 c = c .sum-within2 .ensures ∙ by-upper _ (omega arith) (sym (c .before .before .sum-within .ensures) ∙ not-false _ (c .before .if2 .left))
+unfolding within sumWithin
+returns-3 c =
+    let v = c .before .before .before .before .args .b .total in
+    rw (le-leb v 1000000 (omega arith), sym (c .before .before .sum-within .ensures) ∙ not-false _ (c .before .if2 .left)) (c .sum-within2 .ensures)
 
 pub is-within-spec : {M : Type 1} → statement M
 is-within-spec =
-    tie.close (tie.spec returns sum-within-requires returns-2 sum-within-requires-2 returns-3)
+    tie.close
+    (tie.spec
+    returns
+    (λ c κs. search needs)
+    returns-2
+    (λ c κs. search needs)
+    returns-3)

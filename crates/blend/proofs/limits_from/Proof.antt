@@ -1,23 +1,11 @@
 -- `limits_from` meets its contract: each limit is one quotient.
-use borrow.Author.Needs.{needs}
 use mathlib.Core.Path.{ap₂, _∙_}
 use Prim.Native.Nat.{ℕ}
 use native.Mathlib.Omega.{arith}
+use borrow.Author.Needs.{needs}
 use Rattle.blend.proofs.Figures.{lower-figure, upper-figure}
 use Rattle.blend.proofs.limits_from.Statement.{statement}
 use Rattle.blend.proofs.limits_from.Tie as tie
-
-sub-rated : tie.Need-sub-rated
-sub-rated c = search needs
-
-rated-requires : tie.Need-rated-requires
-rated-requires c κs = search needs
-
-add-rated : tie.Need-add-rated
-add-rated c = search needs
-
-rated-requires-2 : tie.Need-rated-requires-2
-rated-requires-2 c κs = search needs
 
 returns : tie.Need-returns
 returns c =
@@ -26,4 +14,11 @@ returns c =
     (c .before .rated .ensures ∙ lower-figure (a .b) (a .t) (omega arith)) (c .rated2 .ensures ∙ upper-figure (a .b) (a .t) (omega arith))
 
 pub limits-from-spec : {M : Type 1} → statement M
-limits-from-spec = tie.close (tie.spec sub-rated rated-requires add-rated rated-requires-2 returns)
+limits-from-spec =
+    tie.close
+    (tie.spec
+    (λ c. search needs)
+    (λ c κs. search needs)
+    (λ c. search needs)
+    (λ c κs. search needs)
+    returns)

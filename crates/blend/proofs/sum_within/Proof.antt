@@ -2,7 +2,6 @@
 use native.Mathlib.Nat.{mul-le-mul}
 use native.Mathlib.Omega.{arith}
 use borrow.Author.Tests.{le-leb, lt-leb}
-use Rattle.blend.specs.Held.{sumTest}
 use Rattle.blend.proofs.sum_within.Statement.{statement}
 use Rattle.blend.proofs.sum_within.Tie as tie
 
@@ -10,14 +9,12 @@ mul-if1 : tie.Need-mul-if1
 mul-if1 c = omega (arith, mul-le-mul (c .pre .0) (c .pre .2))
 
 returns : tie.Need-returns
-unfolding sumTest
 returns c = rw (lt-leb _ _ (c .if1 .taken))
 
 mul-result : tie.Need-mul-result
 mul-result c = omega (arith, mul-le-mul (c .before .pre .1) (c .before .pre .2))
 
 returns-2 : tie.Need-returns-2
-unfolding sumTest
 returns-2 c = rw (le-leb _ _ (c .if1 .left))
 
 pub sum-within-spec : {M : Type 1} → statement M

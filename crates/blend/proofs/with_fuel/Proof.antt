@@ -1,26 +1,17 @@
 -- `with_fuel` meets its contract: the weights are the definition's, and the sums fit.
-use borrow.Author.Needs.{needs}
 use mathlib.Core.Path.{ap₂}
 use Prim.Native.Nat.{ℕ, _+_, _*_}
 use native.Mathlib.Omega.{arith}
+use borrow.Author.Needs.{needs}
 use Rattle.blend.proofs.Figures.{weighed}
 use Rattle.blend.proofs.with_fuel.Statement.{statement}
 use Rattle.blend.proofs.with_fuel.Tie as tie
-
-add-t4 : tie.Need-add-t4
-add-t4 c = search needs
-
-weigh-lower-requires : tie.Need-weigh-lower-requires
-weigh-lower-requires c κs = search needs
 
 mul-t6 : tie.Need-mul-t6
 mul-t6 c = omega (arith, weighed (c .before .before .pre .2) (c .weigh-lower .ensures .1))
 
 add-t7 : tie.Need-add-t7
 add-t7 c = omega (arith, weighed (c .before .before .before .pre .2) (c .before .weigh-lower .ensures .1))
-
-weigh-upper-requires : tie.Need-weigh-upper-requires
-weigh-upper-requires c κs = search needs
 
 mul-t9 : tie.Need-mul-t9
 mul-t9 c = omega (arith, weighed (c .before .before .before .before .pre .2) (c .weigh-upper .ensures .1))
@@ -38,11 +29,11 @@ pub with-fuel-spec : {M : Type 1} → statement M
 with-fuel-spec =
     tie.close
     (tie.spec
-    add-t4
-    weigh-lower-requires
+    (λ c. search needs)
+    (λ c κs. search needs)
     mul-t6
     add-t7
-    weigh-upper-requires
+    (λ c κs. search needs)
     mul-t9
     add-t10
     returns)

@@ -5,8 +5,8 @@ use lib.ListN.{length-take}
 use Rattle.examples.proofs.show_read.Statement.{statement}
 use Rattle.examples.proofs.show_read.Tie as tie
 
-jlw-read-formula-requires : tie.Need-jlw-read-formula-requires
-jlw-read-formula-requires c κs = search needs
+read-formula-requires : tie.Need-read-formula-requires
+read-formula-requires c κs = search needs
 
 show-refusal-requires : tie.Need-show-refusal-requires
 show-refusal-requires c κs = search needs
@@ -42,7 +42,7 @@ pub show-read-spec : {M : Type 1} → statement M
 show-read-spec =
     tie.close
     (tie.spec
-    jlw-read-formula-requires
+    read-formula-requires
     show-refusal-requires
     returns
     slice-aggregate-write-formula

@@ -1,141 +1,153 @@
--- `flash_by_bonds` meets its contract: what each test said, in the order of the definition.
+-- `flash_by_bonds` meets its contract: the tests of the definition, one after the other.
 use mathlib.Core.Path.{_≡_, sym, ap, _∙_}
 use mathlib.Core.Bool.{false}
-use mathlib.Core.Option.{none}
+use mathlib.Core.Option.{none, Option·getD}
 use native.Mathlib.Omega.{arith}
 use borrow.Author.Needs.{needs}
 use lib.IntN.{pos}
 use mir.Facts.{toZ-ofZ}
 use mir.Syntax.{w64}
-use mir.Val.{toZ, ofZ}
-use Rattle.refusal.specs.Outcome.{shownTemperature}
-use Rattle.refusal.specs.Within.{notWithin}
-use Rattle.bonds.specs.Kinds.{aboveAt, hydrogenDiffers}
-use Rattle.bonds.proofs.Places.{none-above, few-bonds}
-use Rattle.flash.specs.Points.{outside, terms, sumFrom}
-use Rattle.flash.proofs.Tests.{admitted-method, inside}
-use Rattle.flash.proofs.Answers.{Accepted, none-missing, bonds-unknown, bonds-above, bonds-hydrogen, bonds-missing, bonds-outside, bonds-done}
+use Rattle.answer.specs.Outside.{outside}
+use Rattle.answer.proofs.Lowest.{found-at, found-none}
+use Rattle.answer.proofs.Outside.{inside, inside-size}
+use Rattle.bonds.specs.Kinds.{aboveAt, hydrogenUnbalanced}
+use Rattle.bonds.proofs.Places.{none-above}
+use Rattle.flash.specs.Tables.{methods}
+use Rattle.flash.specs.Points.{boilingOutside, line, lineTerms, noCoefficientAt, terms, sumFrom, byBonds}
+use Rattle.flash.specs.Internal.{KnownMethod, FewBonds, shownSum}
+use Rattle.flash.proofs.Sizes.{bits, Sized, sized, read}
+use Rattle.flash.proofs.Columns.{method-small, column-small, missing-is, sum-terms}
 use Rattle.flash.proofs.flash_by_bonds.Statement.{statement}
 use Rattle.flash.proofs.flash_by_bonds.Tie as tie
 
 -- what holds past each test
-known : (c : tie.Else1) → notWithin 3 (c .before .before .args .method) ≡ false
-known c = sym (c .before .is-not-within .ensures) ∙ c .if1 .left
+known : (c : tie.Else1) → let m = c .before .before .args .method in (outside (pos 1) (pos 3) (pos m) ≡ false) × KnownMethod m
+known c =
+    let e = sym (c .before .is-outside .ensures) ∙ c .if1 .left in
+    let h = inside 1 3 _ e in
+    (e, record { from = h .0; to = h .1 })
 
-few : (c : tie.Else2) → let s = c .before .before .before .before in aboveAt (s .args .atoms) (s .args .bonds) ≡ none
-few c = none-above _ _ (omega arith)
+few : (c : tie.Else2) → let s = c .before .before .before .before .args in (aboveAt (s .atoms) (s .bonds) ≡ none) × FewBonds (s .bonds)
+few c = let h = none-above _ _ _ (c .before .first-above-200 .ensures) (omega arith) in (h .0, record { most = h .1 })
 
-agree : (c : tie.Else3) → let s = c .before .before .before .before .before .before in hydrogenDiffers (s .args .atoms) (s .args .bonds) ≡ false
-agree c = sym (c .before .hydrogen-differs .ensures) ∙ c .if3 .left
+balanced : (c : tie.Else3) → let s = c .before .before .before .before .before .before .args in hydrogenUnbalanced (s .atoms) (s .bonds) ≡ false
+balanced c = sym (c .before .hydrogen-is-unbalanced .ensures) ∙ c .if3 .left
+
+missing : (c : tie.After-first-missing) → let s = c .before .before .before .before .before .before .before .before .args in
+    c .first-missing .result ≡ Option·getD (noCoefficientAt (s .method) (s .bonds)) 0
+missing c = rw (c .before .column-of .ensures, missing-is _ _ (known (c .before .before .before .before .before .before) .1)) at (c .first-missing .ensures)
+
+filled : (c : tie.Else4) → let s = c .before .before .before .before .before .before .before .before .before .args in noCoefficientAt (s .method) (s .bonds) ≡ none
+unfolding noCoefficientAt
+filled c = found-none _ 22 _ (missing (c .before)) (omega arith)
 
 abbrev start : tie.Else4 → tie.Start
-start c = c .before .before .before .before .before .before .before .before
+start c = c .before .before .before .before .before .before .before .before .before
 
-accepted : (c : tie.Else4) → let s = start c in Accepted (s .args .method) (s .args .atoms) (s .args .bonds)
-accepted c =
-    let d = c .before .before in
-    record { known = known (d .before .before .before .before); few = few (d .before .before); agree = agree d; no-blank = none-missing _ _ (omega arith) }
+boiling : (c : tie.After-is-boiling-outside) → boilingOutside (start (c .before) .args .boiling) ≡ c .is-boiling-outside .result
+boiling c = sym (rw (toZ-ofZ (start (c .before) .fits .boiling)) at (c .is-boiling-outside .ensures))
 
-outside-is : (c : tie.After-is-outside) → outside (start (c .before) .args .boiling) ≡ c .is-outside .result
-outside-is c = sym (rw (toZ-ofZ (start (c .before) .fits .boiling)) at (c .is-outside .ensures))
-
-sum-is : (c : tie.After-bond-sum)
-    → let s = start (c .before .before .before) in toZ w64 (ofZ w64 (c .bond-sum .result)) ≡ sumFrom (pos 0) (terms (s .args .method) (s .args .bonds) (s .args .boiling))
-sum-is c =
-    toZ-ofZ {w = w64} {z = c .bond-sum .result} (search needs)
-    ∙ rw (toZ-ofZ (start (c .before .before .before) .fits .boiling)) at (c .bond-sum .ensures)
-
-is-not-within-requires : tie.Need-is-not-within-requires
-is-not-within-requires c κs = search needs
-
-refused-temperature-requires : tie.Need-refused-temperature-requires
-refused-temperature-requires c κs = search needs
+admitted : (c : tie.Else5) → boilingOutside (start (c .before .before) .args .boiling) ≡ false
+admitted c = boiling (c .before) ∙ c .if5 .left
 
 returns : tie.Need-returns
-returns c = c .refused-temperature .ensures ∙ ap shownTemperature (bonds-unknown _ _ _ _ (sym (c .before .before .is-not-within .ensures) ∙ c .before .if1 .taken))
-
-first-above-200-requires : tie.Need-first-above-200-requires
-first-above-200-requires c κs = search needs
-
-refused-temperature-requires-2 : tie.Need-refused-temperature-requires-2
-refused-temperature-requires-2 c κs = search needs
+unfolding byBonds
+returns c = rw (sym (c .before .before .is-outside .ensures) ∙ c .before .if1 .taken) (c .refused-temperature .ensures)
 
 returns-2 : tie.Need-returns-2
+unfolding byBonds
 returns-2 c =
-    let d = c .before .before in
-    c .refused-temperature2 .ensures ∙ ap shownTemperature (bonds-above _ _ _ _ (known (d .before)) _ (d .first-above-200 .ensures) (omega arith))
-
-hydrogen-differs-requires : tie.Need-hydrogen-differs-requires
-hydrogen-differs-requires c κs = search needs
-
-refused-temperature-requires-3 : tie.Need-refused-temperature-requires-3
-refused-temperature-requires-3 c κs = search needs
+    let f = c .before .before in
+    rw (known (f .before) .0, found-at (aboveAt _ _) _ (f .first-above-200 .ensures) (omega arith)) (c .refused-temperature2 .ensures)
 
 returns-3 : tie.Need-returns-3
+unfolding byBonds
 returns-3 c =
-    let d = c .before .before in
-    let e = d .before in
-    c .refused-temperature3 .ensures ∙ ap shownTemperature (bonds-hydrogen _ _ _ _ (known (e .before .before)) (few e) (sym (d .hydrogen-differs .ensures) ∙ c .before .if3 .taken))
+    let h = c .before .before in
+    rw (known (h .before .before .before) .0, few (h .before) .0, sym (h .hydrogen-is-unbalanced .ensures) ∙ c .before .if3 .taken) (c .refused-temperature3 .ensures)
+
+column-of-requires : tie.Need-column-of-requires
+column-of-requires c κs = known (c .before .before .before .before) .1
 
 first-missing-requires : tie.Need-first-missing-requires
-first-missing-requires c κs = admitted-method _ (known (c .before .before .before .before))
-
-refused-temperature-requires-4 : tie.Need-refused-temperature-requires-4
-refused-temperature-requires-4 c κs = search needs
+first-missing-requires c κs = rw (c .column-of .ensures) (column-small _ (known (c .before .before .before .before .before) .1))
 
 returns-4 : tie.Need-returns-4
+unfolding byBonds
 returns-4 c =
-    let d = c .before .before in
-    let e = d .before in
-    let f = e .before .before in
-    c .refused-temperature4 .ensures
-    ∙ ap shownTemperature (bonds-missing _ _ _ _ (known (f .before .before)) (few f) (agree e) _ (d .first-missing .ensures) (omega arith))
-
-is-outside-requires : tie.Need-is-outside-requires
-is-outside-requires c κs = search needs
-
-refused-temperature-requires-5 : tie.Need-refused-temperature-requires-5
-refused-temperature-requires-5 c κs = search needs
+    let m = c .before .before in
+    let e = m .before .before in
+    rw (known (e .before .before .before .before) .0, few (e .before .before) .0, balanced e, found-at (noCoefficientAt _ _) _ (missing m) (omega arith)) (c .refused-temperature4 .ensures)
 
 returns-5 : tie.Need-returns-5
+unfolding byBonds
 returns-5 c =
-    c .refused-temperature5 .ensures
-    ∙ ap shownTemperature (bonds-outside _ _ _ _ (accepted (c .before .before .before)) (outside-is (c .before .before) ∙ c .before .if5 .taken))
+    let d = c .before .before .before in
+    let e = d .before .before .before in
+    rw (known (e .before .before .before .before) .0, few (e .before .before) .0, balanced e, filled d, boiling (c .before .before) ∙ c .before .if5 .taken) (c .refused-temperature5 .ensures)
+
+method-line-requires : tie.Need-method-line-requires
+method-line-requires c κs = known (c .before .before .before .before .before .before .before .before .before) .1
+
+line-sum-requires : tie.Need-line-sum-requires
+line-sum-requires c κs =
+    rw (c .method-line .ensures, toZ-ofZ (start (c .before .before .before) .fits .boiling))
+    (method-small _, inside-size 20000 60000 _ (omega arith) (admitted (c .before)))
+
+-- the sum of the line's terms, as it is handed on
+module _ (c : tie.After-line-sum) where
+  line-read : Sized 70000000 (bits (c .line-sum .result)) (c .line-sum .result)
+  line-read = read (omega arith) (sized 70000000 (c .line-sum .result) (c .line-sum .ensures .1))
+
+  line-is : let s = start (c .before .before .before .before) in
+      bits (c .line-sum .result) ≡ sumFrom (pos 0) (lineTerms (line methods (s .args .method)) (s .args .boiling))
+  line-is =
+      line-read .is
+      ∙ rw (c .before .method-line .ensures, toZ-ofZ (start (c .before .before .before .before) .fits .boiling)) at (c .line-sum .ensures .0)
 
 bond-sum-requires : tie.Need-bond-sum-requires
 bond-sum-requires c κs =
-    let h = accepted (c .before .before) in
-    rw (toZ-ofZ (start (c .before .before) .fits .boiling))
-    (admitted-method _ (h .known), record { most = few-bonds _ _ (h .few) }, inside _ (outside-is (c .before) ∙ c .if5 .left))
+    let n = c .before .before .before .before .before .before in
+    (rw (line-read c .is) (line-read c .most), first-missing-requires n κs, few (n .before .before .before) .1)
 
-rounded-requires : tie.Need-rounded-requires
-rounded-requires c κs = search needs
+sum-is : (c : tie.After-bond-sum) → let s = start (c .before .before .before .before .before) .args in
+    bits (c .bond-sum .result) ≡ sumFrom (pos 0) (terms (s .method) (s .bonds) (s .boiling))
+sum-is c =
+    toZ-ofZ {w = w64} {z = c .bond-sum .result} (search needs)
+    ∙ c .bond-sum .ensures
+    ∙ sum-terms _ _ _ _ _ (line-is (c .before)) (c .before .before .before .before .before .before .before .column-of .ensures)
 
 returns-6 : tie.Need-returns-6
+unfolding byBonds
 returns-6 c =
-    let d = c .before .before .before in
-    c .rounded .ensures
-    ∙ ap shownTemperature (bonds-done _ _ _ _ (accepted (d .before)) (outside-is d ∙ c .before .before .if5 .left) _ (sum-is (c .before)))
+    let b = c .before in
+    let d = b .before .before .before .before .before in
+    let e = d .before .before .before in
+    rw (known (e .before .before .before .before) .0, few (e .before .before) .0, balanced e, filled d, admitted (b .before .before .before))
+    (c .rounded .ensures ∙ ap shownSum (sum-is b))
 
 pub flash-by-bonds-spec : {M : Type 1} → statement M
 flash-by-bonds-spec =
     tie.close
     (tie.spec
-    is-not-within-requires
-    refused-temperature-requires
+    (λ c κs. search needs)
+    (λ c κs. search needs)
     returns
-    first-above-200-requires
-    refused-temperature-requires-2
+    (λ c κs. search needs)
+    (λ c κs. search needs)
     returns-2
-    hydrogen-differs-requires
-    refused-temperature-requires-3
+    (λ c κs. search needs)
+    (λ c κs. search needs)
     returns-3
+    column-of-requires
     first-missing-requires
-    refused-temperature-requires-4
+    (λ c κs. search needs)
     returns-4
-    is-outside-requires
-    refused-temperature-requires-5
+    (λ c κs. search needs)
+    (λ c κs. search needs)
     returns-5
+    method-line-requires
+    line-sum-requires
     bond-sum-requires
-    rounded-requires
+    (λ c κs. search needs)
     returns-6)

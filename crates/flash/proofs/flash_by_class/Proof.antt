@@ -1,76 +1,69 @@
--- `flash_by_class` meets its contract: what each test said, in the order of the definition.
+-- `flash_by_class` meets its contract: the tests of the definition, one after the other.
 use mathlib.Core.Path.{_≡_, sym, ap, _∙_}
 use mathlib.Core.Bool.{false}
+use native.Mathlib.Omega.{arith}
 use borrow.Author.Needs.{needs}
 use lib.IntN.{pos}
 use mir.Facts.{toZ-ofZ}
-use mir.Syntax.{w64}
-use mir.Val.{toZ, ofZ}
-use Rattle.refusal.specs.Outcome.{shownTemperature}
-use Rattle.refusal.specs.Within.{notWithin}
-use Rattle.refusal.proofs.Tests.{within}
-use Rattle.flash.specs.Points.{outside, classTerms, sumFrom}
-use Rattle.flash.proofs.Tests.{inside}
-use Rattle.flash.proofs.Answers.{class-unknown, class-outside, class-done}
+use Rattle.answer.specs.Outside.{outside}
+use Rattle.answer.proofs.Outside.{inside, inside-size}
+use Rattle.flash.specs.Points.{boilingOutside, classTerms, sumFrom, byClass}
+use Rattle.flash.specs.Internal.{shownSum}
+use Rattle.flash.proofs.Sizes.{bits, sized, read}
+use Rattle.flash.proofs.Columns.{class-small}
 use Rattle.flash.proofs.flash_by_class.Statement.{statement}
 use Rattle.flash.proofs.flash_by_class.Tie as tie
 
-is-known : (c : tie.Else1) → notWithin 10 (c .before .before .args .class) ≡ false
-is-known c = sym (c .before .is-not-within .ensures) ∙ c .if1 .left
+known : (c : tie.Else1) → outside (pos 1) (pos 10) (pos (c .before .before .args .class)) ≡ false
+known c = sym (c .before .is-outside .ensures) ∙ c .if1 .left
 
-outside-is : (c : tie.After-is-outside) → outside (c .before .before .before .args .boiling) ≡ c .is-outside .result
-outside-is c = sym (rw (toZ-ofZ (c .before .before .before .fits .boiling)) at (c .is-outside .ensures))
+boiling : (c : tie.After-is-boiling-outside) → boilingOutside (c .before .before .before .args .boiling) ≡ c .is-boiling-outside .result
+boiling c = sym (rw (toZ-ofZ (c .before .before .before .fits .boiling)) at (c .is-boiling-outside .ensures))
 
-sum-is : (c : tie.After-class-sum)
-    → let s = c .before .before .before .before .before in toZ w64 (ofZ w64 (c .class-sum .result)) ≡ sumFrom (pos 0) (classTerms (s .args .class) (s .args .boiling))
+admitted : (c : tie.Else2) → boilingOutside (c .before .before .before .before .args .boiling) ≡ false
+admitted c = boiling (c .before) ∙ c .if2 .left
+
+sum-is : (c : tie.After-line-sum) → let s = c .before .before .before .before .before .before in
+    bits (c .line-sum .result) ≡ sumFrom (pos 0) (classTerms (s .args .class) (s .args .boiling))
+unfolding classTerms
 sum-is c =
-    toZ-ofZ {w = w64} {z = c .class-sum .result} (search needs)
-    ∙ rw (toZ-ofZ (c .before .before .before .before .before .fits .boiling)) at (c .class-sum .ensures)
-
-is-not-within-requires : tie.Need-is-not-within-requires
-is-not-within-requires c κs = search needs
-
-refused-temperature-requires : tie.Need-refused-temperature-requires
-refused-temperature-requires c κs = search needs
+    let s = c .before .before .before .before .before .before in
+    read (omega arith) (sized 70000000 (c .line-sum .result) (c .line-sum .ensures .1)) .is
+    ∙ rw (c .before .class-line .ensures, toZ-ofZ (s .fits .boiling)) at (c .line-sum .ensures .0)
 
 returns : tie.Need-returns
-returns c = c .refused-temperature .ensures ∙ ap shownTemperature (class-unknown _ _ (sym (c .before .before .is-not-within .ensures) ∙ c .before .if1 .taken))
-
-is-outside-requires : tie.Need-is-outside-requires
-is-outside-requires c κs = search needs
-
-refused-temperature-requires-2 : tie.Need-refused-temperature-requires-2
-refused-temperature-requires-2 c κs = search needs
+unfolding byClass
+returns c = rw (sym (c .before .before .is-outside .ensures) ∙ c .before .if1 .taken) (c .refused-temperature .ensures)
 
 returns-2 : tie.Need-returns-2
-returns-2 c =
-    c .refused-temperature2 .ensures
-    ∙ ap shownTemperature (class-outside _ _ (is-known (c .before .before .before)) (outside-is (c .before .before) ∙ c .before .if2 .taken))
+unfolding byClass
+returns-2 c = rw (known (c .before .before .before), boiling (c .before .before) ∙ c .before .if2 .taken) (c .refused-temperature2 .ensures)
 
-class-sum-requires : tie.Need-class-sum-requires
-class-sum-requires c κs =
-    let k = within 10 _ (is-known (c .before .before)) in
-    rw (toZ-ofZ (c .before .before .before .before .fits .boiling)) (k .0, k .1, inside _ (outside-is (c .before) ∙ c .if2 .left))
+class-line-requires : tie.Need-class-line-requires
+class-line-requires c κs = let h = inside 1 10 _ (known (c .before .before)) in record { from = h .0; to = h .1 }
 
-rounded-requires : tie.Need-rounded-requires
-rounded-requires c κs = search needs
+line-sum-requires : tie.Need-line-sum-requires
+line-sum-requires c κs =
+    rw (c .class-line .ensures, toZ-ofZ (c .before .before .before .before .before .fits .boiling))
+    (class-small _, inside-size 20000 60000 _ (omega arith) (admitted (c .before)))
 
 returns-3 : tie.Need-returns-3
+unfolding byClass
 returns-3 c =
-    let d = c .before .before .before in
-    c .rounded .ensures
-    ∙ ap shownTemperature (class-done _ _ (is-known (d .before)) (outside-is d ∙ c .before .before .if2 .left) _ (sum-is (c .before)))
+    let a = c .before .before .before in
+    rw (known (a .before .before), admitted a) (c .rounded .ensures ∙ ap shownSum (sum-is (c .before)))
 
 pub flash-by-class-spec : {M : Type 1} → statement M
 flash-by-class-spec =
     tie.close
     (tie.spec
-    is-not-within-requires
-    refused-temperature-requires
+    (λ c κs. search needs)
+    (λ c κs. search needs)
     returns
-    is-outside-requires
-    refused-temperature-requires-2
+    (λ c κs. search needs)
+    (λ c κs. search needs)
     returns-2
-    class-sum-requires
-    rounded-requires
+    class-line-requires
+    line-sum-requires
+    (λ c κs. search needs)
     returns-3)

@@ -1,14 +1,23 @@
--- `jlw_fuel_limits_at` hands its signed temperature on to `fuel_limits_of_text_at`.
-use borrow.Author.Needs.{needs}
+-- `jlw_fuel_limits_at` asks of the counts that its text reads to.
+use mathlib.Core.Option.{some}
 use mir.Facts.{toZ-ofZ}
+use borrow.Author.Needs.{needs}
+use Rattle.formula.proofs.Texts.{asked-of-text}
+use Rattle.blend.specs.Fuel.{text}
+use Rattle.blend.specs.Blend.{shownLimits}
+use Rattle.blend.proofs.Told.{unless-most}
+use Rattle.limits.specs.FuelLimits.{fuelLimits}
+use Rattle.limits.proofs.Alone.{as-blend}
 use Rattle.jaloosewin.proofs.jlw_fuel_limits_at.Statement.{statement}
 use Rattle.jaloosewin.proofs.jlw_fuel_limits_at.Tie as tie
 
-fuel-limits-of-text-at-requires : tie.Need-fuel-limits-of-text-at-requires
-fuel-limits-of-text-at-requires c κs = search needs
-
 returns : tie.Need-returns
-returns c = rw (toZ-ofZ (c .before .before .fits .temperature)) at (c .fuel-limits-of-text-at .ensures)
+returns c =
+    let l = rw (toZ-ofZ (c .before .before .before .before .before .fits .temperature)) at (c .before .fuel-limits-at .ensures) in
+    let e = c .limits-unless .ensures in (
+      asked-of-text _ _ (c .before .before .before .read-formula .ensures .0) shownLimits (fuelLimits (some _)) (l .0) e,
+      (rw e (unless-most (c .before .before .before .read-formula .result .refusal) (c .before .fuel-limits-at .result) 10000 (l .1 .0)), as-blend (text _) (some _)),
+    )
 
 pub jlw-fuel-limits-at-spec : {M : Type 1} → statement M
-jlw-fuel-limits-at-spec = tie.close (tie.spec fuel-limits-of-text-at-requires returns)
+jlw-fuel-limits-at-spec = tie.close (tie.spec (λ c κs. search needs) (λ c κs. search needs) (λ c κs. search needs) returns)

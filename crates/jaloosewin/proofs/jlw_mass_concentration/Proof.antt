@@ -1,14 +1,16 @@
--- `jlw_mass_concentration` hands its signed temperature on to `mass_concentration_of_text`.
-use borrow.Author.Needs.{needs}
+-- `jlw_mass_concentration` asks of the counts that its text reads to.
 use mir.Facts.{toZ-ofZ}
+use borrow.Author.Needs.{needs}
+use Rattle.formula.proofs.Texts.{asked-of-text}
+use Rattle.blend.specs.Blend.{shownLimits}
+use Rattle.limits.specs.Concentration.{massConcentration}
 use Rattle.jaloosewin.proofs.jlw_mass_concentration.Statement.{statement}
 use Rattle.jaloosewin.proofs.jlw_mass_concentration.Tie as tie
 
-mass-concentration-of-text-requires : tie.Need-mass-concentration-of-text-requires
-mass-concentration-of-text-requires c κs = search needs
-
 returns : tie.Need-returns
-returns c = rw (toZ-ofZ (c .before .before .fits .temperature)) at (c .mass-concentration-of-text .ensures)
+returns c =
+    let l = rw (toZ-ofZ (c .before .before .before .before .before .fits .temperature)) at (c .before .mass-concentration .ensures) in
+    asked-of-text _ _ (c .before .before .before .read-formula .ensures .0) shownLimits (massConcentration _) l (c .limits-unless .ensures)
 
 pub jlw-mass-concentration-spec : {M : Type 1} → statement M
-jlw-mass-concentration-spec = tie.close (tie.spec mass-concentration-of-text-requires returns)
+jlw-mass-concentration-spec = tie.close (tie.spec (λ c κs. search needs) (λ c κs. search needs) (λ c κs. search needs) returns)

@@ -10,7 +10,7 @@ fuel-limits-at-requires c κs = search needs
 
 returns : tie.Need-returns
 unfolding fuelLimits
-returns c = (c .fuel-limits-at .ensures .0, as-blend _ _)
+returns c = let e = c .fuel-limits-at .ensures in (e .0, (e .1 .0, as-blend _ _))
 
 pub fuel-limits-spec : {M : Type 1} → statement M
 fuel-limits-spec = tie.close (tie.spec fuel-limits-at-requires returns)

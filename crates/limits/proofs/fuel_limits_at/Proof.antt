@@ -1,49 +1,55 @@
 -- `fuel_limits_at` meets its contract: a blend of the fuel at 1 part is refused, or is asked.
-use borrow.Author.Needs.{needs}
 use mathlib.Core.Path.{_≡_, ap, _∙_}
 use mathlib.Core.Option.{some}
 use native.Mathlib.Omega.{arith}
 use mir.Facts.{toZ-ofZ}
+use borrow.Author.Needs.{needs}
+use Rattle.answer.specs.Outcome.{Outcome, refused, answered}
 use Rattle.blend.specs.declared.Blend.{Blend}
 use Rattle.blend.specs.Fuel.{counts}
 use Rattle.blend.specs.Blend.{emptyBlend, adding, shownBlend}
-use Rattle.limits.proofs.Alone.{as-blend, alone-refused, alone-answered}
+use Rattle.blend.proofs.Told.{adding-numbered, blend-refused, blend-answered}
+use Rattle.limits.specs.FuelLimits.{AsBlend}
+use Rattle.limits.proofs.Alone.{as-blend}
 use Rattle.limits.proofs.fuel_limits_at.Statement.{statement}
 use Rattle.limits.proofs.fuel_limits_at.Tie as tie
 
-made : (c : tie.After-add-fuel) → c .add-fuel .result ≡ shownBlend emptyBlend (adding emptyBlend (counts (c .before .before .args .fuel)) 1)
-made c = c .add-fuel .ensures ∙ ap (λ (b : Blend). shownBlend b (adding b (counts (c .before .before .args .fuel)) 1)) (c .before .empty-blend .ensures .0)
+module _ (c : tie.After-add-fuel) where
+  abbrev alone : Outcome Blend
+  alone = adding emptyBlend (counts (c .before .before .args .fuel)) 1
 
-empty-blend-requires : tie.Need-empty-blend-requires
-empty-blend-requires c κs = search needs
+  single : AsBlend (counts (c .before .before .args .fuel)) (some (c .before .before .args .temperature))
+  single = as-blend (counts (c .before .before .args .fuel)) (some (c .before .before .args .temperature))
 
-add-fuel-requires : tie.Need-add-fuel-requires
-add-fuel-requires c κs = search needs
+  made : c .add-fuel .result ≡ shownBlend emptyBlend alone
+  made = rw (c .before .empty-blend .ensures .0) at (c .add-fuel .ensures)
 
-no-limits-requires : tie.Need-no-limits-requires
-no-limits-requires c κs = search needs
+declined : (c : tie.Then1) → alone (c .before .before .before) ≡ refused (c .before .before .before .add-fuel .result .refusal)
+declined c = blend-refused _ _ _ (made (c .before .before .before)) (omega arith)
+
+taken : (c : tie.Else1) → alone (c .before .before .before) ≡ answered (c .before .before .before .add-fuel .result .blend)
+taken c = blend-answered _ _ _ (made (c .before .before .before)) (adding-numbered _ _ _) (omega arith)
 
 returns : tie.Need-returns
 returns c =
-    let a = c .before .before .before .before in
-    (c .no-limits .ensures ∙ alone-refused (counts _) (some _) _ (made a) (omega arith), as-blend _ _)
-
-blend-limits-at-requires : tie.Need-blend-limits-at-requires
-blend-limits-at-requires c κs = search needs
+    let e = c .no-limits .ensures in
+    let b = single (c .before .before .before .before) in
+    (rw (b .of-blend, declined (c .before)) e, (rw e (omega arith, omega arith), b))
 
 returns-2 : tie.Need-returns-2
 returns-2 c =
-    let a = c .before .before .before .before .before in
-    let asked = rw (toZ-ofZ (a .before .before .fits .temperature)) at (c .blend-limits-at .ensures) in
-    (asked ∙ alone-answered (counts _) (some _) _ (made a) (omega arith), as-blend _ _)
+    let z = c .before .before in
+    let e = rw (toZ-ofZ (z .before .before .before .before .before .fits .temperature)) at (c .blend-limits-at .ensures) in
+    let b = single (z .before .before .before) in
+    (rw (b .of-blend, taken z) (e .0), (e .1, b))
 
 pub fuel-limits-at-spec : {M : Type 1} → statement M
 fuel-limits-at-spec =
     tie.close
     (tie.spec
-    empty-blend-requires
-    add-fuel-requires
-    no-limits-requires
+    (λ c κs. search needs)
+    (λ c κs. search needs)
+    (λ c κs. search needs)
     returns
-    blend-limits-at-requires
+    (λ c κs. search needs)
     returns-2)

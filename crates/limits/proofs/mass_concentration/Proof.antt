@@ -1,63 +1,76 @@
 -- `mass_concentration` meets its contract: the limits' refusal, or the concentrations at them.
-use borrow.Author.Needs.{needs}
-use mathlib.Core.Path.{_≡_, ap, _∙_}
-use Prim.Native.Nat.{ℕ}
+use mathlib.Core.Path.{_≡_, ap, ap₂, _∙_}
+use mathlib.Core.Option.{some}
+use Prim.Native.Nat.{ℕ, _≤_}
 use native.Mathlib.Omega.{arith}
 use lib.IntN.{natAbs}
 use mir.Facts.{toZ-ofZ}
-use Rattle.blend.specs.Fuel.{counts}
+use borrow.Author.Needs.{needs}
+use Rattle.answer.specs.Outcome.{refused, answered}
+use Rattle.elements.specs.Internal.{AtMost200}
 use Rattle.blend.specs.Blend.{shownLimits}
+use Rattle.blend.proofs.Masses.{mass-most}
+use Rattle.blend.proofs.Told.{pairOf, limits-refused, limits-answered}
 use Rattle.limits.specs.FuelLimits.{fuelLimits}
-use Rattle.limits.specs.Held.{rate}
-use Rattle.limits.proofs.Concentrations.{Asked, rate-refused, rate-facts, rate-answered}
-use mathlib.Core.Option.{some}
+use Rattle.limits.specs.Concentration.{concentration, massConcentration}
+use Rattle.limits.specs.Internal.{rate}
+use Rattle.limits.proofs.Alone.{fuel-numbered}
+use Rattle.limits.proofs.Concentrations.{concentration-is, asked-facts}
 use Rattle.limits.proofs.mass_concentration.Statement.{statement}
 use Rattle.limits.proofs.mass_concentration.Tie as tie
 
-asked : (c : tie.After-fuel-limits-at) → c .fuel-limits-at .result ≡ shownLimits (fuelLimits (counts (c .before .args .fuel)) (some (c .before .args .temperature)))
+asked : (c : tie.After-fuel-limits-at) → c .fuel-limits-at .result ≡ shownLimits (fuelLimits (some (c .before .args .temperature)) (c .before .args .fuel))
 asked c = rw (toZ-ofZ (c .before .fits .temperature)) at (c .fuel-limits-at .ensures .0)
 
-known : (c : tie.Else1) → let l = c .before .before .before .fuel-limits-at .result in
-    Asked (c .before .before .before .before .args .fuel) (c .before .before .before .before .args .temperature) (record { lower = l .lower; upper = l .upper })
-known c = rate-facts _ _ _ (asked (c .before .before .before)) (omega arith)
+declined : (c : tie.Then1) → let l = c .before .before .before in fuelLimits (some (l .before .args .temperature)) (l .before .args .fuel) ≡ refused (l .fuel-limits-at .result .refusal)
+declined c = limits-refused _ _ (asked (c .before .before .before)) (omega arith)
 
-sized : (c : tie.After-size) → c .size .result ≡ natAbs (c .before .before .before .before .before .before .args .temperature)
-sized c = c .size .ensures ∙ ap natAbs (toZ-ofZ (c .before .before .before .before .before .before .fits .temperature))
+pair : (c : tie.Else1) → let l = c .before .before .before in fuelLimits (some (l .before .args .temperature)) (l .before .args .fuel) ≡ answered (pairOf (l .fuel-limits-at .result))
+pair c = limits-answered _ _ (asked (c .before .before .before)) (fuel-numbered _ _) (omega arith)
 
-fuel-limits-at-requires : tie.Need-fuel-limits-at-requires
-fuel-limits-at-requires c κs = search needs
+module _ (c : tie.After-size) where
+  known : AtMost200 (c .before .before .before .before .before .before .args .fuel) × (natAbs (c .before .before .before .before .before .before .args .temperature) ≤ 20000)
+  known = asked-facts _ _ _ (pair (c .before .before))
+
+  sized : c .size .result ≡ natAbs (c .before .before .before .before .before .before .args .temperature)
+  sized = rw (toZ-ofZ (c .before .before .before .before .before .before .fits .temperature)) at (c .size .ensures)
+
+  light : c .before .molar-mass .result ≤ 40000
+  light = rw (c .before .molar-mass .ensures) (omega (arith, mass-most _ (known .0)))
+
+  pub rates : (x : ℕ) → rate (c .before .molar-mass .result) (c .size .result) x
+      ≡ concentration (c .before .before .before .before .before .before .args .fuel) (natAbs (c .before .before .before .before .before .before .args .temperature)) x
+  rates x = rw (c .before .molar-mass .ensures, sized) (concentration-is _ (known .0) _ x)
 
 returns : tie.Need-returns
-returns c = rate-refused _ _ _ (asked (c .before .before .before)) (omega arith)
-
-mass-of-requires : tie.Need-mass-of-requires
-mass-of-requires c κs = known c .few
-
-size-requires : tie.Need-size-requires
-size-requires c κs = search needs
+unfolding massConcentration
+returns c = rw (declined c) (asked (c .before .before .before) ∙ ap shownLimits (declined c))
 
 rate-of-requires : tie.Need-rate-of-requires
-rate-of-requires c κs = (c .before .mass-of .ensures .1, omega (arith, sized c, known (c .before .before) .warm), known (c .before .before) .low)
+rate-of-requires c κs = let l = c .before .before .before .before .before in (light c, omega (arith, sized c, known c .1), l .fuel-limits-at .ensures .1 .0 .0)
 
 rate-of-requires-2 : tie.Need-rate-of-requires-2
-rate-of-requires-2 c κs = (c .before .before .mass-of .ensures .1, omega (arith, sized (c .before), known (c .before .before .before) .warm), known (c .before .before .before) .high)
+rate-of-requires-2 c κs =
+    let z = c .before in
+    let l = z .before .before .before .before .before in
+    (light z, omega (arith, sized z, known z .1), l .fuel-limits-at .ensures .1 .0 .1)
 
 returns-2 : tie.Need-returns-2
+unfolding massConcentration
 returns-2 c =
-    let m = c .before .before .before in
-    let l = m .before .before .before .before in
-    let by-mass : (t x : ℕ) → rate (m .mass-of .result) t x ≡ _ = λ t x. ap (λ (k : ℕ). rate k t x) (m .mass-of .ensures .0) in
-    rate-answered _ _ _ (asked l) (omega arith) (c .before .before .size .result) _ _ (sized (c .before .before))
-    (c .before .rate-of .ensures ∙ by-mass _ _) (c .rate-of2 .ensures ∙ by-mass _ _)
+    let z = c .before .before in
+    rw (pair (z .before .before))
+    (ap₂ (λ (x y : ℕ). record { refusal = record { number = 0; place = 0 }; lower = x; upper = y })
+    (c .before .rate-of .ensures ∙ rates z _) (c .rate-of2 .ensures ∙ rates z _))
 
 pub mass-concentration-spec : {M : Type 1} → statement M
 mass-concentration-spec =
     tie.close
     (tie.spec
-    fuel-limits-at-requires
+    (λ c κs. search needs)
     returns
-    mass-of-requires
-    size-requires
+    (λ c κs. search needs)
+    (λ c κs. search needs)
     rate-of-requires
     rate-of-requires-2
     returns-2)

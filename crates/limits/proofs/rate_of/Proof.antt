@@ -1,25 +1,20 @@
 -- `rate_of` meets its contract: the products fit.
-use borrow.Author.Needs.{needs}
+use Prim.Native.Nat.{_*_, _≤_}
 use native.Mathlib.Nat.{mul-le-mul}
 use native.Mathlib.Omega.{arith}
-use Rattle.limits.specs.Held.{rate}
+use borrow.Author.Needs.{needs}
+use Rattle.limits.specs.Internal.{rate}
 use Rattle.limits.proofs.rate_of.Statement.{statement}
 use Rattle.limits.proofs.rate_of.Tie as tie
 
+product : (c : tie.Start) → c .args .mass * c .args .limit ≤ 40000 * 10000
+product c = mul-le-mul (c .pre .0) (c .pre .2)
+
 mul-round-div : tie.Need-mul-round-div
-mul-round-div c = omega (arith, mul-le-mul (c .pre .0) (c .pre .2))
+mul-round-div c = omega (arith, product c)
 
 mul-round-div-2 : tie.Need-mul-round-div-2
-mul-round-div-2 c = omega (arith, mul-le-mul (c .pre .0) (c .pre .2))
-
-add-round-div : tie.Need-add-round-div
-add-round-div c = search needs
-
-mul-round-div-3 : tie.Need-mul-round-div-3
-mul-round-div-3 c = search needs
-
-round-div-requires : tie.Need-round-div-requires
-round-div-requires c κs = search needs
+mul-round-div-2 c = omega (arith, product c)
 
 returns : tie.Need-returns
 unfolding rate
@@ -31,7 +26,7 @@ rate-of-spec =
     (tie.spec
     mul-round-div
     mul-round-div-2
-    add-round-div
-    mul-round-div-3
-    round-div-requires
+    (λ c. search needs)
+    (λ c. search needs)
+    (λ c κs. search needs)
     returns)

@@ -23,47 +23,17 @@ within c =
     let t = answerText (shownLimits (sheetAnswer (take (c .before .before .before .before .read-full .result) (c .before .before .before .before .read-full .last .1 .0)))) in
     rw (c .respond .ensures .0, c .respond .ensures .1) (omega (arith, placed-within room t, holding-length room t (placed 96 t)))
 
-slice-aggregate-read-full : tie.Need-slice-aggregate-read-full
-slice-aggregate-read-full c = search needs
-
-read-full-requires : tie.Need-read-full-requires
-read-full-requires c κs = search needs
-
-array-share-prefix-input : tie.Need-array-share-prefix-input
-array-share-prefix-input c = search needs
-
-slice-aggregate-respond : tie.Need-slice-aggregate-respond
-slice-aggregate-respond c = search needs
-
-slice-aggregate-respond-2 : tie.Need-slice-aggregate-respond-2
-slice-aggregate-respond-2 c = search needs
-
-respond-requires : tie.Need-respond-requires
-respond-requires c κs = search needs
-
-array-share-prefix-out : tie.Need-array-share-prefix-out
-array-share-prefix-out c = within (c .before)
-
-slice-aggregate-write-all : tie.Need-slice-aggregate-write-all
-slice-aggregate-write-all c = sym (length-take-le _ _ (within (c .before .before)))
-
-write-all-requires : tie.Need-write-all-requires
-write-all-requires c κs = search needs
-
-returns : tie.Need-returns
-returns c = search needs
-
 pub run-spec : {M : Type 1} → statement M
 run-spec =
     tie.close
     (tie.spec
-    slice-aggregate-read-full
-    read-full-requires
-    array-share-prefix-input
-    slice-aggregate-respond
-    slice-aggregate-respond-2
-    respond-requires
-    array-share-prefix-out
-    slice-aggregate-write-all
-    write-all-requires
-    returns)
+    (λ c. search needs)
+    (λ c κs. search needs)
+    (λ c. search needs)
+    (λ c. search needs)
+    (λ c. search needs)
+    (λ c κs. search needs)
+    (λ c. within (c .before))
+    (λ c. sym (length-take-le _ _ (within (c .before .before))))
+    (λ c κs. search needs)
+    (λ c. search needs))

@@ -1,86 +1,100 @@
--- `admit` meets its contract: one law for each answer.
-use mathlib.Core.Path.{_≡_}
+-- `admit` meets its contract: the tests of the definition, one after the other.
+use mathlib.Core.Path.{_≡_, ap, _∙_}
+use mathlib.Core.Option.{some, none, Option·getD}
+use Prim.Native.Nat.{ℕ, _-_}
 use native.Mathlib.Omega.{arith}
 use borrow.Author.Needs.{needs}
-use Rattle.refusal.specs.Lowest.{orZero}
-use Rattle.formula.specs.Elements.{each, firstAbove}
-use Rattle.formula.specs.Held.{AtMost200}
-use Rattle.formula.proofs.Written.{at-most-200}
-use Rattle.oxygen.proofs.Admissions.{admission-large, admission-fault, admission-low, admission-high}
+use Rattle.answer.specs.declared.Figure.{Figure}
+use Rattle.answer.proofs.Lowest.{found-at}
+use Rattle.elements.specs.declared.Atoms.{Atoms}
+use Rattle.elements.specs.Elements.{each, firstAbove}
+use Rattle.elements.specs.Internal.{AtMost200}
+use Rattle.elements.proofs.Above.{at-most-200}
+use Rattle.oxygen.specs.Admission.{notAdmitted, admission}
+use Rattle.oxygen.specs.Internal.{gain, loss}
+use Rattle.oxygen.proofs.Betas.{added-is, taken-is, gain-most, loss-most, beta-low, beta-high}
+use Rattle.oxygen.proofs.Admissions.{no-fault}
 use Rattle.oxygen.proofs.admit.Statement.{statement}
 use Rattle.oxygen.proofs.admit.Tie as tie
 
-over : (c : tie.After-first-above) → c .first-above .result ≡ orZero (firstAbove (each 200) (c .before .before .args .atoms))
+abbrev value : Figure → ℕ
+value f = f .value
+
+over : (c : tie.After-first-above) → c .first-above .result ≡ Option·getD (firstAbove (each 200) (c .before .before .args .atoms)) 0
 over c = rw (c .before .each .ensures) at (c .first-above .ensures)
 
-few : (c : tie.Else1) → AtMost200 (c .before .before .before .args .atoms)
+-- what each test found
+large : (c : tie.Then1) → firstAbove (each 200) (c .before .before .before .args .atoms) ≡ some (c .before .first-above .result)
+large c = found-at _ _ (over (c .before)) (omega arith)
+
+few : (c : tie.Else1) → let a = c .before .before .before .args .atoms in (firstAbove (each 200) a ≡ none) × AtMost200 a
 few c = at-most-200 _ _ (over (c .before)) (omega arith)
 
-each-requires : tie.Need-each-requires
-each-requires c κs = search needs
+faulty : (c : tie.Then2) → let s = c .before .before .before .before .before in notAdmitted (s .args .purpose) (s .args .atoms) ≡ some (c .before .at-fault .result)
+faulty c = found-at _ _ (c .before .at-fault .ensures) (omega arith)
 
-first-above-requires : tie.Need-first-above-requires
-first-above-requires c κs = search needs
+faultless : (c : tie.Else2) → let s = c .before .before .before .before .before in notAdmitted (s .args .purpose) (s .args .atoms) ≡ none
+faultless c = no-fault _ _ _ (c .before .at-fault .ensures) (omega arith)
 
-refused-figure-requires : tie.Need-refused-figure-requires
-refused-figure-requires c κs = search needs
+module _ (c : tie.After-weighted-sum2) where
+  abbrev a : Atoms
+  a = c .before .before .before .before .before .before .before .args .atoms
+
+  at-most : AtMost200 a
+  at-most = few (c .before .before .before .before) .1
+
+  pub gained : c .before .weighted-sum .result ≡ gain a
+  gained = c .before .weighted-sum .ensures ∙ added-is a at-most
+
+  pub lost : c .weighted-sum2 .result ≡ loss a
+  lost = c .weighted-sum2 .ensures ∙ taken-is a at-most
 
 returns : tie.Need-returns
-returns c = admission-large _ _ _ _ (over (c .before .before)) (omega arith) (c .refused-figure .ensures)
-
-at-fault-requires : tie.Need-at-fault-requires
-at-fault-requires c κs = search needs
-
-refused-figure-requires-2 : tie.Need-refused-figure-requires-2
-refused-figure-requires-2 c κs = search needs
+unfolding admission
+returns c = let e = c .refused-figure .ensures in rw (large (c .before)) (e, omega (arith, ap value e))
 
 returns-2 : tie.Need-returns-2
-returns-2 c = let f = c .before .before in admission-fault _ _ _ (few (f .before)) _ (f .at-fault .ensures) (omega arith) (c .refused-figure2 .ensures)
-
-terms-added-requires : tie.Need-terms-added-requires
-terms-added-requires c κs = few (c .before .before)
-
-terms-taken-requires : tie.Need-terms-taken-requires
-terms-taken-requires c κs = few (c .before .before .before)
+unfolding admission
+returns-2 c =
+    let e = c .refused-figure2 .ensures in
+    rw (few (c .before .before .before) .0, faulty (c .before)) (e, omega (arith, ap value e))
 
 add-if3 : tie.Need-add-if3
-add-if3 c = search needs
-
-refused-figure-requires-3 : tie.Need-refused-figure-requires-3
-refused-figure-requires-3 c κs = search needs
+add-if3 c = omega (arith, lost c, loss-most (a c) (at-most c))
 
 returns-3 : tie.Need-returns-3
+unfolding admission
 returns-3 c =
-    let f = c .before .before .before .before .before in
-    admission-low _ _ _ (few (f .before)) _ (f .at-fault .ensures) (omega arith) (omega arith) (c .refused-figure3 .ensures)
-
-sub-answer : tie.Need-sub-answer
-sub-answer c = search needs
-
-answer-requires : tie.Need-answer-requires
-answer-requires c κs = search needs
+    let w = c .before .before in
+    let e = c .refused-figure3 .ensures in
+    rw (few (w .before .before .before .before) .0, faultless (w .before .before), beta-low (a w) (omega (arith, gained w, lost w))) (e, omega (arith, ap value e))
 
 returns-4 : tie.Need-returns-4
+unfolding admission
 returns-4 c =
-    let f = c .before .before .before .before .before in
-    admission-high _ _ _ (few (f .before)) _ (f .at-fault .ensures) (omega arith) (omega arith) _ (omega arith) (c .answer .ensures)
+    let w = c .before .before in
+    let b = beta-high (a w) (omega (arith, gained w, lost w)) in
+    let same : c .before .before .before .weighted-sum .result - c .before .before .weighted-sum2 .result ≡ gain (a w) - loss (a w) = omega (arith, gained w, lost w) in
+    let e = c .answered-figure .ensures in
+    rw (few (w .before .before .before .before) .0, faultless (w .before .before), b .0, b .1)
+    (rw same at e, omega (arith, ap value e, gained w, gain-most (a w) (at-most w)))
 
 pub admit-spec : {M : Type 1} → statement M
 admit-spec =
     tie.close
     (tie.spec
-    each-requires
-    first-above-requires
-    refused-figure-requires
+    (λ c κs. search needs)
+    (λ c κs. search needs)
+    (λ c κs. search needs)
     returns
-    at-fault-requires
-    refused-figure-requires-2
+    (λ c κs. search needs)
+    (λ c κs. search needs)
     returns-2
-    terms-added-requires
-    terms-taken-requires
+    (λ c κs. search needs)
+    (λ c κs. search needs)
     add-if3
-    refused-figure-requires-3
+    (λ c κs. search needs)
     returns-3
-    sub-answer
-    answer-requires
+    (λ c. search needs)
+    (λ c κs. search needs)
     returns-4)

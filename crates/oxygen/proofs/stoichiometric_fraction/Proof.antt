@@ -1,43 +1,42 @@
 -- `stoichiometric_fraction` meets its contract: a refusal of β stays, and its answer gives the quotient that is rounded.
-use mathlib.Core.Path.{_∙_}
+use mathlib.Core.Path.{_≡_, sym, ap, _∙_}
+use Prim.Native.Nat.{ℕ}
 use native.Mathlib.Omega.{arith}
 use borrow.Author.Needs.{needs}
-use Rattle.oxygen.proofs.Stoichiometry.{fraction-refused, fraction-answered}
+use Rattle.answer.specs.Outcome.{refused, answered, shownFigure}
+use Rattle.answer.proofs.Outcomes.{figure-refused, figure-answered}
+use Rattle.oxygen.specs.declared.Purpose.the-variants.{OxygenCoefficient}
+use Rattle.oxygen.specs.Admission.{oxygenCoefficient}
+use Rattle.oxygen.specs.Stoichiometric.{stoichiometricFraction}
+use Rattle.oxygen.proofs.Admissions.{admission-numbered}
+use Rattle.oxygen.proofs.Stoichiometry.{stoichiometric-figure}
 use Rattle.oxygen.proofs.stoichiometric_fraction.Statement.{statement}
 use Rattle.oxygen.proofs.stoichiometric_fraction.Tie as tie
 
-oxygen-coefficient-requires : tie.Need-oxygen-coefficient-requires
-oxygen-coefficient-requires c κs = search needs
+declined : (c : tie.Then1) → let b = c .before .before .before in oxygenCoefficient (b .before .args .atoms) ≡ refused (b .oxygen-coefficient .result .refusal)
+declined c = figure-refused _ _ (c .before .before .before .oxygen-coefficient .ensures .0) (omega arith)
+
+beta : (c : tie.Else1) → let b = c .before .before .before in oxygenCoefficient (b .before .args .atoms) ≡ answered (b .oxygen-coefficient .result .value)
+beta c = figure-answered _ _ (c .before .before .before .oxygen-coefficient .ensures .0) (admission-numbered OxygenCoefficient _) (omega arith)
 
 returns : tie.Need-returns
-returns c = fraction-refused _ _ (c .before .before .before .oxygen-coefficient .ensures .0) (omega arith)
-
-mul-round-div : tie.Need-mul-round-div
-mul-round-div c = search needs
-
-add-round-div : tie.Need-add-round-div
-add-round-div c = search needs
-
-round-div-requires : tie.Need-round-div-requires
-round-div-requires c κs = search needs
-
-answer-requires : tie.Need-answer-requires
-answer-requires c κs = search needs
+unfolding stoichiometricFraction
+returns c = rw (declined c) (c .before .before .before .oxygen-coefficient .ensures .0 ∙ ap shownFigure (declined c))
 
 returns-2 : tie.Need-returns-2
+unfolding stoichiometricFraction
 returns-2 c =
-    let d = c .before in
-    let b = d .before .before .before .before .before in
-    c .answer .ensures ∙ fraction-answered _ _ (b .oxygen-coefficient .ensures .0) _ (omega arith) (d .round-div .ensures .0)
+    rw (beta (c .before .before .before))
+    (c .answered-figure .ensures ∙ ap (λ (n : ℕ). shownFigure (answered n)) (c .before .round-div .ensures .0 ∙ sym (stoichiometric-figure _)))
 
 pub stoichiometric-fraction-spec : {M : Type 1} → statement M
 stoichiometric-fraction-spec =
     tie.close
     (tie.spec
-    oxygen-coefficient-requires
+    (λ c κs. search needs)
     returns
-    mul-round-div
-    add-round-div
-    round-div-requires
-    answer-requires
+    (λ c. search needs)
+    (λ c. search needs)
+    (λ c κs. search needs)
+    (λ c κs. search needs)
     returns-2)

@@ -1,58 +1,42 @@
--- `add_record` meets its contract: the bytes before the comma are the formula, those behind it the parts.
+-- `add_record` meets its contract: the first field is the formula, the second spells the parts.
 use borrow.Author.Needs.{needs}
-use mathlib.Core.Path.{sym}
-use Prim.Native.Nat.{_+_, _≤_}
-use native.Mathlib.Omega.{arith}
-use lib.ListN.{length}
+use mathlib.Core.Path.{_≡_, sym}
+use mathlib.Core.Bool.{true}
+use mathlib.Core.List.{[]}
+use lib.ListN.{getD}
 use lib.Seq.{length-take-le}
-use Rattle.sheet.proofs.Records.{comma-within, rest-parts, record-added}
+use Rattle.answer.proofs.Tests.{both}
+use Rattle.csv.specs.Lines.{fields}
+use Rattle.csv.specs.Sheet.{formed, goodRecord}
+use Rattle.sheet.specs.Mixture.{isParts}
 use Rattle.sheet.proofs.add_record.Statement.{statement}
 use Rattle.sheet.proofs.add_record.Tie as tie
 
--- the comma is within the line
-within : (c : tie.After-field-length) → c .field-length .result + 1 ≤ length (c .before .before .args .l .now)
-within c = comma-within (c .before .before .args .l .now) (c .before .before .pre) _ (c .field-length .ensures)
-
-field-length-requires : tie.Need-field-length-requires
-field-length-requires c κs = search needs
-
-add-spelled : tie.Need-add-spelled
-add-spelled c = omega (arith, within c)
-
-sub-spelled : tie.Need-sub-spelled
-sub-spelled c = within c
-
-part-spelled-start : tie.Need-part-spelled-start
-part-spelled-start c = within c
-
-part-spelled-end : tie.Need-part-spelled-end
-part-spelled-end c = search needs
+-- the second field is parts
+parts : (c : tie.Start) → isParts (getD (fields (c .args .l .now)) 1 []) ≡ true
+unfolding goodRecord
+parts c = both (formed 2 (c .args .l .now)) _ (c .pre) .1
 
 spelled-requires : tie.Need-spelled-requires
-spelled-requires c κs = let f = c .before in rest-parts (f .before .before .args .l .now) (f .before .before .pre) _ (f .field-length .ensures)
+spelled-requires c κs = let t = c .before in rw (t .split .ensures .parts-are) (parts (t .before .before))
 
 slice-aggregate-add-fuel-text : tie.Need-slice-aggregate-add-fuel-text
-slice-aggregate-add-fuel-text c = let f = c .before .before .before in sym (length-take-le _ (f .before .before .args .l .now) (omega (arith, within f)))
-
-add-fuel-text-requires : tie.Need-add-fuel-text-requires
-add-fuel-text-requires c κs = search needs
+slice-aggregate-add-fuel-text c = let t = c .before .before .before in sym (length-take-le _ (t .before .before .args .l .now) (t .split .ensures .within))
 
 returns : tie.Need-returns
 returns c =
-    let f = c .before .before .before .before in
-    let a = f .before .before .args in
-    record-added (a .l .now) (f .before .before .pre) _ (f .field-length .ensures) (a .b) _ _ (c .before .before .spelled .ensures) (c .add-fuel-text .ensures)
+    let t = c .before .before .before .before in
+    rw (t .split .ensures .formula-is, c .before .before .spelled .ensures, t .split .ensures .parts-are) at (c .add-fuel-text .ensures)
 
 pub add-record-spec : {M : Type 1} → statement M
 add-record-spec =
     tie.close
     (tie.spec
-    field-length-requires
-    add-spelled
-    sub-spelled
-    part-spelled-start
-    part-spelled-end
+    (λ c κs. search needs)
+    (λ c. search needs)
+    (λ c. search needs)
+    (λ c. search needs)
     spelled-requires
     slice-aggregate-add-fuel-text
-    add-fuel-text-requires
+    (λ c κs. search needs)
     returns)

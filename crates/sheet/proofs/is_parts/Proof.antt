@@ -12,23 +12,17 @@ use Rattle.sheet.proofs.is_parts.Tie as tie
 passed : (c : tie.Else1) → digits (c .before .before .before .args .s .now) ≡ true
 passed c = sym (c .before .all-digits .ensures) ∙ not-false _ (c .if1 .left)
 
-all-digits-requires : tie.Need-all-digits-requires
-all-digits-requires c κs = search needs
-
 returns : tie.Need-returns
 returns c = parts-other (c .before .before .before .args .s .now) (sym (c .before .all-digits .ensures) ∙ not-true _ (c .if1 .taken))
 
 returns-2 : tie.Need-returns-2
-returns-2 c = parts-none (c .before .before .before .before .args .s .now) (passed (c .before)) (omega arith)
+returns-2 c = let e = c .before in parts-none (e .before .before .before .args .s .now) (passed e) (omega arith)
 
 returns-3 : tie.Need-returns-3
-returns-3 c = parts-long (c .before .before .before .before .before .args .s .now) (passed (c .before .before)) (omega arith)
-
-shared-slice-read-result : tie.Need-shared-slice-read-result
-shared-slice-read-result c = search needs
+returns-3 c = let e = c .before .before in parts-long (e .before .before .before .args .s .now) (passed e) (omega arith)
 
 returns-4 : tie.Need-returns-4
-returns-4 c = eq-eqb _ _ (c .if4 .taken) ∙ parts-one (c .before .before .before .before .before .before .args .s .now) (passed (c .before .before .before)) (omega arith)
+returns-4 c = let e = c .before .before .before in eq-eqb _ _ (c .if4 .taken) ∙ parts-one (e .before .before .before .args .s .now) (passed e) (omega arith)
 
 returns-5 : tie.Need-returns-5
 returns-5 c =
@@ -36,13 +30,4 @@ returns-5 c =
     parts-more (e .before .before .before .args .s .now) (passed e) (c .before .before .before .if2 .left) (omega arith) (c .before .if4 .left)
 
 pub is-parts-spec : {M : Type 1} → statement M
-is-parts-spec =
-    tie.close
-    (tie.spec
-    all-digits-requires
-    returns
-    returns-2
-    returns-3
-    shared-slice-read-result
-    returns-4
-    returns-5)
+is-parts-spec = tie.close (tie.spec (λ c κs. search needs) returns returns-2 returns-3 (λ c. search needs) returns-4 returns-5)

@@ -3,11 +3,8 @@ use borrow.Author.Needs.{needs}
 use Rattle.sheet.proofs.refused_at.Statement.{statement}
 use Rattle.sheet.proofs.refused_at.Tie as tie
 
-empty-blend-requires : tie.Need-empty-blend-requires
-empty-blend-requires c κs = search needs
-
 returns : tie.Need-returns
 returns c = rw (c .empty-blend .ensures .0)
 
 pub refused-at-spec : {M : Type 1} → statement M
-refused-at-spec = tie.close (tie.spec empty-blend-requires returns)
+refused-at-spec = tie.close (tie.spec (λ c κs. search needs) returns)

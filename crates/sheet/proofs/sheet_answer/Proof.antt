@@ -1,79 +1,74 @@
--- `sheet_answer` meets its contract: one law for each answer, and the reference model.
+-- `sheet_answer` meets its contract: the tests of the definition, one after the other; and the reference model.
 use borrow.Author.Needs.{needs}
 use borrow.Author.Tests.{not-true, not-false}
 use mathlib.Core.Bool.{true}
+use mathlib.Core.List.{List}
+use mathlib.Core.Option.{some, none}
 use mathlib.Core.Path.{_≡_, sym, _∙_}
+use Prim.Native.Nat.{ℕ}
 use native.Mathlib.Omega.{arith}
-use Rattle.text.specs.Sheet.{headed}
-use Rattle.sheet.specs.Mixture.{header}
-use Rattle.sheet.proofs.Records.{answer-headless, not-long, answer-bad, none-bad, answer-refused, answer-limits}
+use Rattle.answer.specs.Outcome.{refused, answered}
+use Rattle.answer.proofs.Lowest.{found-at, found-none}
+use Rattle.csv.specs.Sheet.{headed, records, badAt, firstBadRecord}
+use Rattle.blend.specs.Blend.{emptyBlend}
+use Rattle.blend.proofs.Told.{blend-refused, blend-answered}
+use Rattle.sheet.specs.Mixture.{header, goodMixture, addingAll, sheetAnswer}
+use Rattle.sheet.proofs.Records.{all-numbered}
 use Rattle.sheet.proofs.Modelled.{by-model}
 use Rattle.sheet.proofs.sheet_answer.Statement.{statement}
 use Rattle.sheet.proofs.sheet_answer.Tie as tie
 
--- the header stands
-opened : (c : tie.Else1) → headed header (c .before .before .before .args .sheet .now) ≡ true
-opened c = sym (c .before .has-header .ensures) ∙ not-false _ (c .if1 .left)
+-- the sheet
+abbrev sheet : tie.Start → List ℕ
+sheet c = c .args .sheet .now
 
-has-header-requires : tie.Need-has-header-requires
-has-header-requires c κs = search needs
+-- what each test found
+opened : (c : tie.Else1) → headed header (sheet (c .before .before .before .before)) ≡ true
+opened c = sym (c .before .is-headed .ensures) ∙ not-false _ (c .if1 .left)
 
-no-limits-requires : tie.Need-no-limits-requires
-no-limits-requires c κs = search needs
+bad : (c : tie.Then2) → firstBadRecord goodMixture (records (sheet (c .before .before .before .before .before .before))) ≡ some (c .before .first-bad-record .result)
+bad c = found-at _ _ (c .before .first-bad-record .ensures) (omega arith)
+
+good : (c : tie.Else2) → firstBadRecord goodMixture (records (sheet (c .before .before .before .before .before .before))) ≡ none
+good c = found-none (badAt goodMixture (records (sheet (c .before .before .before .before .before .before)))) _ _ (c .before .first-bad-record .ensures) (omega arith)
+
+declined : (c : tie.Then3) → let a = c .before .before .before in
+    addingAll emptyBlend 1 (records (sheet (a .before .before .before .before .before .before .before))) ≡ refused (a .add-records .result .refusal)
+declined c = blend-refused emptyBlend _ _ (c .before .before .before .add-records .ensures) (omega arith)
+
+added : (c : tie.Else3) → let a = c .before .before .before in
+    addingAll emptyBlend 1 (records (sheet (a .before .before .before .before .before .before .before))) ≡ answered (a .add-records .result .blend)
+added c = blend-answered emptyBlend _ _ (c .before .before .before .add-records .ensures) (all-numbered emptyBlend 1 _) (omega arith)
 
 returns : tie.Need-returns
-returns c = let s = c .before .before .before .before .args .sheet .now in (c .no-limits .ensures ∙ answer-headless s (sym (c .before .before .has-header .ensures) ∙ not-true _ (c .before .if1 .taken)), by-model s)
-
-first-bad-requires : tie.Need-first-bad-requires
-first-bad-requires c κs = not-long (c .before .before .before .args .sheet .now) (opened c)
-
-no-limits-requires-2 : tie.Need-no-limits-requires-2
-no-limits-requires-2 c κs = search needs
+unfolding sheetAnswer
+returns c = let t = c .before in (rw (sym (t .before .is-headed .ensures) ∙ not-true _ (t .if1 .taken)) (c .no-limits .ensures), by-model _)
 
 returns-2 : tie.Need-returns-2
-returns-2 c =
-    let f = c .before .before in
-    let s = f .before .before .before .before .args .sheet .now in
-    (c .no-limits2 .ensures ∙ answer-bad s (opened (f .before)) _ (f .first-bad .ensures) (omega arith), by-model s)
-
-add-records-requires : tie.Need-add-records-requires
-add-records-requires c κs =
-    let f = c .before in
-    let s = f .before .before .before .before .args .sheet .now in
-    (not-long s (opened (f .before)), none-bad s (opened (f .before)) _ (f .first-bad .ensures) (omega arith))
-
-no-limits-requires-3 : tie.Need-no-limits-requires-3
-no-limits-requires-3 c κs = search needs
+unfolding sheetAnswer
+returns-2 c = let t = c .before in (rw (opened (t .before .before), bad t) (c .no-limits2 .ensures), by-model _)
 
 returns-3 : tie.Need-returns-3
-returns-3 c =
-    let r = c .before .before .before .before in
-    let f = r .before .before in
-    let s = f .before .before .before .before .args .sheet .now in
-    (c .no-limits3 .ensures ∙ answer-refused s (opened (f .before)) _ (f .first-bad .ensures) (omega arith) _ (r .add-records .ensures) (omega arith), by-model s)
-
-blend-limits-requires : tie.Need-blend-limits-requires
-blend-limits-requires c κs = search needs
+unfolding sheetAnswer
+returns-3 c = let e = c .before .before .before .before .before in (rw (opened (e .before .before), good e, declined (c .before)) (c .no-limits3 .ensures), by-model _)
 
 returns-4 : tie.Need-returns-4
-returns-4 c =
-    let r = c .before .before .before .before in
-    let f = r .before .before in
-    let s = f .before .before .before .before .args .sheet .now in
-    (answer-limits s (opened (f .before)) _ (f .first-bad .ensures) (omega arith) _ (r .add-records .ensures) (omega arith) _ (c .blend-limits .ensures), by-model s)
+unfolding sheetAnswer
+returns-4 c = let e = c .before .before .before .before .before in (rw (opened (e .before .before), good e, added (c .before)) (c .blend-limits .ensures .0), by-model _)
 
 pub sheet-answer-spec : {M : Type 1} → statement M
 sheet-answer-spec =
     tie.close
     (tie.spec
-    has-header-requires
-    no-limits-requires
+    (λ c. search needs)
+    (λ c κs. search needs)
+    (λ c κs. search needs)
     returns
-    first-bad-requires
-    no-limits-requires-2
+    (λ c κs. search needs)
+    (λ c κs. search needs)
     returns-2
-    add-records-requires
-    no-limits-requires-3
+    (λ c κs. good c)
+    (λ c κs. search needs)
     returns-3
-    blend-limits-requires
+    (λ c κs. search needs)
     returns-4)

@@ -2,6 +2,7 @@
 use Prim.Native.Nat.{_-_, _≤_, _<_}
 use native.Mathlib.Omega.{arith}
 use lib.ListN.{length, getD}
+use Rattle.text.specs.Bytes.{byte}
 use Rattle.sheet.proofs.Parts.{Spelling, spelling-starts, spelling-digit, spelling-small, spelling-more, spelling-ends}
 use Rattle.sheet.proofs.spelled.Statement.{statement}
 use Rattle.sheet.proofs.spelled.Tie as tie
@@ -14,41 +15,17 @@ abbrev μ-loop : tie.MeasureT-loop
 
 -- a digit, behind a number that is small
 module _ (c : tie.After-shared-slice-known Inv-loop μ-loop) where
-  digit : (48 ≤ getD (c .before .before .before .args .s .now) (c .before .before .loop .i) 0) × (getD (c .before .before .before .args .s .now) (c .before .before .loop .i) 0 ≤ 57)
-  digit = spelling-digit (c .before .before .before .args .s .now) (c .before .before .loop .i) (c .before .before .loop .n) (c .before .before .loop .inv) (omega arith)
+  digit : let l = c .before .before in let b = getD (l .before .args .s .now) (l .loop .i) 0 in (byte "0" ≤ b) × (b ≤ byte "9")
+  digit = spelling-digit _ _ _ (c .before .before .loop .inv) (omega arith)
 
   small : c .before .before .loop .n < 10000000
-  small = spelling-small (c .before .before .before .args .s .now) (c .before .before .loop .i) (c .before .before .loop .n) (c .before .before .loop .inv)
-
-loop-holds : tie.Need-loop-holds Inv-loop μ-loop
-loop-holds c = spelling-starts (c .args .s .now) (c .pre)
-
-shared-slice-read-digit : tie.Need-shared-slice-read-digit Inv-loop μ-loop
-shared-slice-read-digit c = omega arith
-
-sub-digit : tie.Need-sub-digit Inv-loop μ-loop
-sub-digit c = digit c .0
-
-mul-n : tie.Need-mul-n Inv-loop μ-loop
-mul-n c = omega (arith, small c)
-
-cast-n : tie.Need-cast-n Inv-loop μ-loop
-cast-n c = omega (arith, digit c)
-
-add-n : tie.Need-add-n Inv-loop μ-loop
-add-n c = omega (arith, small c, digit c)
-
-add-i : tie.Need-add-i Inv-loop μ-loop
-add-i c = omega arith
-
-loop-less : tie.Need-loop-less Inv-loop μ-loop
-loop-less c = omega arith
+  small = spelling-small _ _ _ (c .before .before .loop .inv)
 
 loop-again : tie.Need-loop-again Inv-loop μ-loop
-loop-again c = let l = c .before .before .loop in spelling-more (c .before .before .before .args .s .now) (l .i) (l .n) (l .inv) (omega arith)
+loop-again c = spelling-more _ _ _ (c .before .before .loop .inv) (omega arith)
 
 returns : tie.Need-returns Inv-loop μ-loop
-returns c = let l = c .before .loop in spelling-ends (c .before .before .args .s .now) (l .i) (l .n) (l .inv) (omega arith)
+returns c = spelling-ends _ _ _ (c .before .loop .inv) (omega arith)
 
 pub spelled-spec : {M : Type 1} → statement M
 spelled-spec =
@@ -56,13 +33,13 @@ spelled-spec =
     (tie.spec
     Inv-loop
     μ-loop
-    loop-holds
-    shared-slice-read-digit
-    sub-digit
-    mul-n
-    cast-n
-    add-n
-    add-i
-    loop-less
+    (λ c. spelling-starts _ (c .pre))
+    (λ c. omega arith)
+    (λ c. digit c .0)
+    (λ c. omega (arith, small c))
+    (λ c. omega (arith, digit c))
+    (λ c. omega (arith, small c, digit c))
+    (λ c. omega arith)
+    (λ c. omega arith)
     loop-again
     returns)

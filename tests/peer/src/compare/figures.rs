@@ -3,7 +3,7 @@
 use super::fail;
 use peer::analyser::{parts, Method, Reading};
 use peer::blend::Blend;
-use peer::limits::Pair;
+use peer::limits::{Pair, FIT_TEMPERATURE};
 use peer::refusal::{refuse, Answer};
 use peer::{curve, flash, formula, limits, sheet};
 use std::fmt::Debug;
@@ -39,13 +39,13 @@ fn texts() {
 }
 
 fn fuels() {
-    same("CH4", limits::fuel_limits_of_text(b"CH4"), pair(454, 2_732));
+    same("CH4", limits::fuel_limits_of_text_at(b"CH4", FIT_TEMPERATURE), pair(454, 2_732));
     same("CH4 fraction", limits::stoichiometric_fraction_of_text(b"CH4"), Ok(936));
     same("CH4 at 134", limits::fuel_limits_of_text_at(b"CH4", 13_400), pair(414, 3_099));
     same("CH4 mass", limits::mass_concentration_of_text(b"CH4", 13_400), pair(1_984, 14_848));
-    same("C6H6", limits::fuel_limits_of_text(b"C6H6"), pair(143, 821));
-    same("C7H8", limits::fuel_limits_of_text(b"C7H8"), pair(121, 743));
-    same("CO2", limits::fuel_limits_of_text(b"CO2"), refuse(4, 0));
+    same("C6H6", limits::fuel_limits_of_text_at(b"C6H6", FIT_TEMPERATURE), pair(143, 821));
+    same("C7H8", limits::fuel_limits_of_text_at(b"C7H8", FIT_TEMPERATURE), pair(121, 743));
+    same("CO2", limits::fuel_limits_of_text_at(b"CO2", FIT_TEMPERATURE), refuse(4, 0));
     let full = Blend::EMPTY.add(&counts("CH4"), 1_000_000);
     same("total", full.map(|blend| blend.total), Ok(1_000_000));
     same("one more", full.and_then(|blend| blend.add(&counts("CH4"), 1)), refuse(8, 0));

@@ -1,0 +1,4 @@
+pub mod Tests
+pub mod Outside
+pub mod Lowest
+pub mod Outcomes

@@ -1,0 +1,4 @@
+pub mod Numbers
+pub mod Outcome
+pub mod Lowest
+pub mod Outside

@@ -1,0 +1,50 @@
+-- Outcomes of blends told by what is shown of them: by the number of the refusal, 0 where there is none.
+use mathlib.Core.Path.{_≡_}
+use mathlib.Core.Bool.{Bool, true, false, not, cond}
+use Prim.Native.Nat.{ℕ, _+_, _≤_, _<_}
+use native.Mathlib.Omega.{arith}
+use lib.Dec.{ltb}
+use Rattle.answer.specs.declared.Refusal.{Refusal}
+use Rattle.answer.specs.Numbers.{totalTooLarge, blendOutOfBounds}
+use Rattle.answer.specs.Outcome.{Outcome, refused, answered, refuse, andThen, unless, Numbered}
+use Rattle.answer.proofs.Outcomes.{told-refused, told-answered, refuse-numbered, andThen-numbered}
+use Rattle.elements.specs.declared.Atoms.{Atoms}
+use Rattle.blend.specs.declared.Blend.{Blend}
+use Rattle.blend.specs.declared.Blended.{Blended}
+use Rattle.blend.specs.declared.Limits.{Limits}
+use Rattle.blend.specs.Fuel.{Fuel, admitting, quarters}
+use Rattle.blend.specs.Blend.{within, withFuel, taking, adding, shownBlend, LimitPair, noLimits, shownLimits}
+use Rattle.blend.proofs.Admitted.{admitting-numbered}
+
+pub adding-numbered : (b : Blend) (f : Fuel) (v : ℕ) → Numbered (adding b f v)
+unfolding adding taking
+adding-numbered b f v =
+    let rest : Atoms → Outcome Blend = λ a. refuse totalTooLarge 0 (ltb 1000000 (b .total + v)) (answered (withFuel b (quarters a) v)) in
+    refuse-numbered blendOutOfBounds 0 (not (within b)) (andThen (admitting f) rest) (omega arith)
+    (andThen-numbered (admitting f) rest (admitting-numbered f)
+    (λ a. refuse-numbered totalTooLarge 0 (ltb 1000000 (b .total + v)) (answered (withFuel b (quarters a) v)) (omega arith) tt))
+
+module _ (b : Blend) (o : Outcome Blend) (r : Blended) (e : r ≡ shownBlend b o) where
+  pub blend-refused : 0 < r .refusal .number → o ≡ refused (r .refusal)
+  blend-refused l = rw e (told-refused o (rw e at l))
+
+  pub blend-answered : Numbered o → r .refusal .number ≤ 0 → o ≡ answered (r .blend)
+  blend-answered h l = rw e (told-answered b o h (omega (arith, rw e at l)))
+
+abbrev pub pairOf : Limits → LimitPair
+pairOf r = record { lower = r .lower; upper = r .upper }
+
+module _ (o : Outcome LimitPair) (r : Limits) (e : r ≡ shownLimits o) where
+  pub limits-refused : 0 < r .refusal .number → o ≡ refused (r .refusal)
+  limits-refused l = rw e (told-refused o (rw e at l))
+
+  pub limits-answered : Numbered o → r .refusal .number ≤ 0 → o ≡ answered (pairOf r)
+  limits-answered h l = rw e (told-answered noLimits o h (omega (arith, rw e at l)))
+
+-- limits that are handed on unless something was declined are no larger
+pub unless-most : (r : Refusal) (l : Limits) (n : ℕ) → (l .lower ≤ n) × (l .upper ≤ n) → let u = unless r (shownLimits (refused r)) l in (u .lower ≤ n) × (u .upper ≤ n)
+unless-most r l n h = go (ltb 0 (r .number))
+  where
+    go : (b : Bool) → let u = cond b (shownLimits (refused r)) l in (u .lower ≤ n) × (u .upper ≤ n)
+    go true = (omega arith, omega arith)
+    go false = h

@@ -1,0 +1,4 @@
+pub mod Spans
+pub mod Lines
+pub mod Fields
+pub mod Sheets

@@ -1,0 +1,118 @@
+// RFC 4180 text: the lines of a text, the fields of a line, the form of a record, and a sheet's header.
+ghost use mathlib.Core.Path.{_≡_};
+ghost use Prim.Native.Nat.{_<_};
+ghost use lib.Dec.{eqb};
+ghost use lib.ListN.{length, drop};
+ghost use Rattle.csv.specs.Lines.{crlf, fields, lineAt, fieldAt, all, plain};
+ghost use Rattle.csv.specs.Sheet.{headed, formed};
+use text::byte_at;
+
+// A line of a text or a field of a line: where it ends, and where the next one begins. Both are at most the text's length, which stands for no next one.
+pub struct Span {
+    pub end: usize,
+    pub next: usize,
+}
+
+// Whether CRLF stands at a position.
+fn is_crlf_at(s: &[u8], at: usize) -> bool
+    requires { ⌜ at < length (now s) ⌝ }
+    ensures { λ r. ⌜ r ≡ crlf (drop at (now (s .entry))) ⌝ }
+{
+    if s[at] != b'\r' {
+        return false;
+    }
+    byte_at(s, at + 1) == b'\n'
+}
+
+// The line that begins at a position of a text. At the end and past it, it is empty and stands at the end.
+pub fn line_at(s: &[u8], at: usize) -> Span
+    ensures { λ r. ⌜ r ≡ lineAt (now (s .entry)) at ⌝ }
+{
+    let mut end = at;
+    while end < s.len() {
+        if is_crlf_at(s, end) {
+            return Span { end, next: end + 2 };
+        }
+        end += 1;
+    }
+    Span {
+        end: s.len(),
+        next: s.len(),
+    }
+}
+
+// The field that begins at a position of a line. At the end and past it, it is empty and stands at the end.
+pub fn field_at(l: &[u8], at: usize) -> Span
+    ensures { λ r. ⌜ r ≡ fieldAt (now (l .entry)) at ⌝ }
+{
+    let mut end = at;
+    while end < l.len() {
+        if l[end] == b',' {
+            return Span { end, next: end + 1 };
+        }
+        end += 1;
+    }
+    Span {
+        end: l.len(),
+        next: l.len(),
+    }
+}
+
+fn is_plain(b: u8) -> bool
+    ensures { λ r. ⌜ r ≡ plain b ⌝ }
+{
+    b != b'"' && (b != b'\r' && b != b'\n')
+}
+
+// Whether a line has no quote mark, CR or LF.
+fn is_plain_line(l: &[u8]) -> bool
+    ensures { λ r. ⌜ r ≡ all plain (now (l .entry)) ⌝ }
+{
+    let mut i = 0;
+    while i < l.len() {
+        if !is_plain(l[i]) {
+            return false;
+        }
+        i += 1;
+    }
+    true
+}
+
+// Whether a line has exactly n fields.
+fn has_fields(l: &[u8], n: usize) -> bool
+    ensures { λ r. ⌜ r ≡ eqb (length (fields (now (l .entry)))) n ⌝ }
+{
+    let mut at = 0;
+    let mut left = n;
+    while 0 < left {
+        let field = field_at(l, at);
+        left -= 1;
+        if field.end == l.len() {
+            return left == 0;
+        }
+        at = field.next;
+    }
+    false
+}
+
+// Whether a line has the form of a record of n fields: no quote mark, CR or LF, and exactly so many fields.
+pub fn is_formed(l: &[u8], n: usize) -> bool
+    ensures { λ r. ⌜ r ≡ formed n (now (l .entry)) ⌝ }
+{
+    if !is_plain_line(l) {
+        return false;
+    }
+    has_fields(l, n)
+}
+
+// Whether a sheet has at most 64 KiB and begins with the header line.
+pub fn is_headed(s: &[u8], header: &[u8]) -> bool
+    ensures { λ r. ⌜ r ≡ headed (now (header .entry)) (now (s .entry)) ⌝ }
+{
+    if 65536 < s.len() {
+        return false;
+    }
+    let line = line_at(s, 0);
+    let end = line.end;
+    check::same(&s[..end], header)
+}

@@ -1,0 +1,3 @@
+pub mod Elements
+pub mod Above
+pub mod Weights

@@ -1,0 +1,3 @@
+pub mod Hill
+pub mod Writing
+pub mod RoundTrip

@@ -1,0 +1,91 @@
+-- Both questions as conditions: that a condition's test is the question as printed, and what a condition that was answered says on a curve.
+use mathlib.Core.Path.{_≡_, refl, sym, ap, _∙_}
+use mathlib.Core.Bool.{Bool, true, false}
+use mathlib.Core.Option.{some}
+use Prim.Native.Nat.{ℕ, _+_, _*_, _≤_, _<_}
+use native.Mathlib.Decide.{decLt}
+use native.Mathlib.Nat.{mul-le-mul}
+use native.Mathlib.Omega.{arith}
+use borrow.Author.Tests.{le-leb, lt-leb, lt-ltb}
+use lib.Dec.{leb}
+use lib.IntN.{pos}
+use Rattle.answer.specs.Numbers.{unknownMethod, diffusionOutside}
+use Rattle.answer.specs.Outcome.{Outcome, refused, answered, refuse, andThen, shownTemperature, Numbered}
+use Rattle.answer.specs.Outside.{outside}
+use Rattle.answer.proofs.Outcomes.{refuse-numbered, andThen-numbered}
+use Rattle.answer.proofs.Outside.{inside}
+use Rattle.rounding.specs.Fraction.{_over_, whole, _⊠_, atMost}
+use Rattle.elements.specs.declared.Atoms.{Atoms}
+use Rattle.oxygen.specs.Admission.{admission}
+use Rattle.oxygen.proofs.Admissions.{admission-numbered, admitted-facts}
+use Rattle.blend.specs.Limit.{fitTemperature}
+use Rattle.blend.specs.Blend.{LimitPair}
+use Rattle.limits.specs.FuelLimits.{fuelLimits}
+use Rattle.limits.proofs.Alone.{fuel-numbered}
+use Rattle.curve.specs.declared.Condition.{Condition}
+use Rattle.curve.specs.Smallest.{Test}
+use Rattle.curve.specs.Curve.{Curve, onCurve}
+use Rattle.curve.specs.Condition.{holds, testOf}
+use Rattle.curve.proofs.Conditions.{test-is}
+use Rattle.ignition.specs.declared.Asked.{Asked}
+use Rattle.ignition.specs.Questions.{reaches, threshold, ignites, purposeOf, limitTest, flashTest}
+use Rattle.ignition.specs.Conditions.{byPressure, byProduct, limitCondition, flashCondition, shownCondition, testedBy}
+use Rattle.ignition.specs.Internal.{putToCurve}
+
+leb-same : (a b c d : ℕ) → (a ≤ b → c ≤ d) → (c ≤ d → a ≤ b) → leb a b ≡ leb c d
+leb-same a b c d h g = go (decLt b a) (decLt d c)
+  where
+    go : Dec (b < a) → Dec (d < c) → leb a b ≡ leb c d
+    go (yes l) (yes m) = lt-leb a b l ∙ sym (lt-leb c d m)
+    go (yes l) (no m) = absurd (let k = g (omega arith) in omega arith)
+    go (no l) d′ = le-leb a b (omega arith) ∙ sym (le-leb c d (h (omega arith)))
+
+-- THE LOWER TEMPERATURE LIMIT
+reaches-is : (limit : ℕ) → testOf (byPressure limit) ≡ reaches limit
+unfolding holds reaches atMost _over_ whole _⊠_
+reaches-is limit =
+    test-is (byPressure limit) (reaches limit) (omega arith) (omega arith)
+    (λ t p. leb-same (1013 * limit) ((0 * t + 100) * p) (limit * 1 * 101300 * 1) (p * (100 * 100 * 1)) (λ h. omega arith) (λ h. omega arith))
+
+pub limit-tested : (a : Atoms) → testedBy (limitCondition a) ≡ limitTest a
+unfolding limitCondition limitTest
+limit-tested a = go (fuelLimits (some fitTemperature) a)
+  where
+    go : (o : Outcome LimitPair) → testedBy (andThen o (λ l. answered (byPressure (l .lower)))) ≡ andThen o (λ l. answered (reaches (l .lower)))
+    go (refused r) = refl
+    go (answered l) = ap answered (reaches-is (l .lower))
+
+pub limit-numbered : (a : Atoms) → Numbered (limitCondition a)
+unfolding limitCondition
+limit-numbered a = andThen-numbered (fuelLimits (some fitTemperature) a) _ (fuel-numbered _ a) (λ l. tt)
+
+-- FORMULA (35): the largest slope is 20,000 · 3,800
+ignites-is : (m diffusion q : ℕ) → diffusion ≤ 20000 → q ≤ 3800 → testOf (byProduct (threshold m) diffusion q) ≡ ignites m diffusion q
+unfolding holds ignites atMost _over_ whole _⊠_
+ignites-is m diffusion q h l =
+    test-is (byProduct (threshold m) diffusion q) (ignites m diffusion q) (omega (arith, mul-le-mul h l)) (omega arith)
+    (λ t p. leb-same (threshold m * 4000000000) ((diffusion * q * t + 0) * p) (threshold m * (100 * 1000 * 10000 * 4)) (t * p * diffusion * q * 1) (λ h. omega arith) (λ h. omega arith))
+
+pub flash-tested : (m : ℕ) (a : Atoms) (diffusion : ℕ) → testedBy (flashCondition m a diffusion) ≡ flashTest m a diffusion
+unfolding flashCondition flashTest
+flash-tested m a diffusion = go (outside (pos 1) (pos 3) (pos m)) (admission (purposeOf m) a) refl (outside (pos 1) (pos 20000) (pos diffusion)) refl
+  where
+    go : (x : Bool) (o : Outcome ℕ) → admission (purposeOf m) a ≡ o → (y : Bool) → outside (pos 1) (pos 20000) (pos diffusion) ≡ y
+        → testedBy (refuse unknownMethod 0 x (andThen o (λ q. refuse diffusionOutside 0 y (answered (byProduct (threshold m) diffusion q)))))
+        ≡ refuse unknownMethod 0 x (andThen o (λ q. refuse diffusionOutside 0 y (answered (ignites m diffusion q))))
+    go true o e y f = refl
+    go false (refused r) e y f = refl
+    go false (answered q) e true f = refl
+    go false (answered q) e false f = ap answered (ignites-is m diffusion q (inside 1 20000 diffusion f .1) (admitted-facts (purposeOf m) a q e .most))
+
+pub flash-numbered : (m : ℕ) (a : Atoms) (diffusion : ℕ) → Numbered (flashCondition m a diffusion)
+unfolding flashCondition
+flash-numbered m a diffusion =
+    refuse-numbered unknownMethod 0 (outside (pos 1) (pos 3) (pos m)) _ (omega arith)
+    (andThen-numbered (admission (purposeOf m) a) _ (admission-numbered (purposeOf m) a)
+    (λ q. refuse-numbered diffusionOutside 0 (outside (pos 1) (pos 20000) (pos diffusion)) _ (omega arith) tt))
+
+-- ON A CURVE a condition that was answered is the question that it is the test of
+pub put-is : (o : Outcome Condition) (c : Curve) (q : Asked) (t : Outcome Test) → Numbered o → q ≡ shownCondition o → testedBy o ≡ t → putToCurve q c ≡ shownTemperature (andThen t (λ test. onCurve test c))
+put-is (refused r) c q t h e f = rw (e, sym f, lt-ltb 0 (r .number) h)
+put-is (answered x) c q t h e f = rw (e, sym f)

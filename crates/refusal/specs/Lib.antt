@@ -1,4 +1,0 @@
-pub mod Numbers
-pub mod Outcome
-pub mod Lowest
-pub mod Within

@@ -1,0 +1,39 @@
+-- The worked examples, by computing each answer on the definitions.
+use mathlib.Core.Path.{refl}
+use mathlib.Core.Option.{Option·elim}
+use Rattle.answer.specs.Lowest.{lowest}
+use Rattle.answer.specs.Outside.{outside}
+use Rattle.rounding.specs.Round.{roundDiv, roundDivℤ}
+use Rattle.rounding.specs.Fraction.{_over_, whole, _⊞_, _⊠_, _⊘_, figure, atMost}
+use Rattle.text.specs.Decimal.{digitFrom}
+use Rattle.elements.specs.Elements.{firstAbove}
+use Rattle.formula.specs.Reader.{symbolOf, multipleOf, readItem, readItems}
+use Rattle.formula.specs.Reading.{reading}
+use Rattle.oxygen.specs.Beta.{beta}
+use Rattle.oxygen.specs.Admission.{notAdmitted, admission}
+use Rattle.oxygen.specs.Stoichiometric.{stoichiometric, stoichiometricFraction}
+use Rattle.blend.specs.Limit.{slope, constant, divisor, limitOf}
+use Rattle.blend.specs.Temperature.{correction}
+use Rattle.blend.specs.Fuel.{molarMass}
+use Rattle.limits.specs.FuelLimits.{fuelFigure, fuelLimits}
+use Rattle.limits.specs.Concentration.{molarVolume, concentration, massConcentration}
+use Rattle.bonds.specs.Kinds.{aboveAt, hydrogenUnbalanced}
+use Rattle.flash.specs.Tables.{coefficients, methods}
+use Rattle.flash.specs.Points.{missing, noCoefficientAt, lineTerms, bondTerm, terms, sumFrom, byBonds}
+use Rattle.curve.specs.Smallest.{smallest, searched}
+use Rattle.curve.specs.Curve.{sizes, outOfRange, rising, badPoint, firstBadPoint, accepting, between, segmentOf, pressureAt, onCurve}
+use Rattle.ignition.specs.Questions.{reaches, limitTest, lowerTemperatureLimit, threshold, ignites, flashTest, flashByCurve}
+use Rattle.worked.proofs.worked_examples.Statement.{statement}
+use Rattle.worked.proofs.worked_examples.Tie as tie
+
+returns : tie.Need-returns
+unfolding reading readItems readItem symbolOf multipleOf digitFrom firstAbove lowest outside
+    beta admission notAdmitted stoichiometricFraction stoichiometric slope constant divisor limitOf correction fuelFigure fuelLimits
+    molarMass molarVolume concentration massConcentration roundDiv roundDivℤ _over_ whole _⊞_ _⊠_ _⊘_ figure atMost
+    aboveAt hydrogenUnbalanced Option·elim coefficients methods missing noCoefficientAt lineTerms bondTerm terms sumFrom byBonds
+    smallest searched sizes outOfRange rising badPoint firstBadPoint accepting between segmentOf pressureAt onCurve
+    reaches limitTest lowerTemperatureLimit threshold ignites flashTest flashByCurve
+returns c = (refl, refl)
+
+pub worked-examples-spec : {M : Type 1} → statement M
+worked-examples-spec = tie.close (tie.spec returns)

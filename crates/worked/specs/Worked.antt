@@ -1,0 +1,106 @@
+-- The worked examples: the figures that document 01 marks for proof, each question with the answer printed there.
+use mathlib.Core.Path.{_≡_}
+use mathlib.Core.List.{List, [], _∷_, map}
+use mathlib.Core.Bool.{cond}
+use mathlib.Core.Option.{some}
+use Prim.Native.Nat.{ℕ, zero, suc}
+use Prim.Native.String.{String}
+use lib.Dec.{eqb}
+use lib.IntN.{ℤ, pos, negℤ}
+use Rattle.answer.specs.Outcome.{Outcome, refused, answered}
+use Rattle.text.specs.Bytes.{bytes}
+use Rattle.elements.specs.declared.Atoms.{Atoms}
+use Rattle.formula.specs.Reading.{reading, ofText}
+use Rattle.oxygen.specs.Stoichiometric.{stoichiometricFraction}
+use Rattle.blend.specs.Limit.{fitTemperature}
+use Rattle.blend.specs.Blend.{LimitPair}
+use Rattle.limits.specs.FuelLimits.{fuelLimits}
+use Rattle.limits.specs.Concentration.{massConcentration}
+use Rattle.bonds.specs.declared.Bonds.{Bonds}
+use Rattle.flash.specs.Points.{byBonds}
+use Rattle.curve.specs.Curve.{Curve, curve}
+use Rattle.ignition.specs.Questions.{lowerTemperatureLimit, flashByCurve}
+
+-- what is asked of a formula text; temperatures are hundredths of a degree
+pub data Case : Type 0 where
+  -- the atom counts
+  formula : String → Case
+  -- the stoichiometric fraction, document 01's share
+  fraction : String → Case
+  -- both limits at the temperature of their formulas' fit, and at another
+  limits : String → Case
+  limitsAt : String → ℕ → Case
+  -- the mass concentrations at both limits
+  concentrations : String → ℕ → Case
+  -- the flash or fire point: the method, the bonds by kind and count, the boiling point
+  flash : ℕ → String → List (ℕ × ℕ) → ℕ → Case
+  -- the lower temperature limit on the curve below, and the flash or fire point there with a diffusion coefficient
+  lowerTemperature : String → Case
+  flashOnCurve : ℕ → String → ℕ → Case
+
+-- what is printed: a refusal's number and place; the counts of C H O N S P F Cl Br Si; figures in hundredths; or hundredths of a degree
+pub data Printed : Type 0 where
+  refusal : (number place : ℕ) → Printed
+  counts : List ℕ → Printed
+  figures : List ℕ → Printed
+  degrees : ℤ → Printed
+
+abbrev pub printedBy : {A : Type 0} → (A → Printed) → Outcome A → Printed
+printedBy f (refused r) = refusal (r .number) (r .place)
+printedBy f (answered a) = f a
+
+abbrev pub both : LimitPair → Printed
+both l = figures (l .lower ∷ l .upper ∷ [])
+
+abbrev pub countOfKind : List (ℕ × ℕ) → ℕ → ℕ
+countOfKind [] k = 0
+countOfKind (p ∷ kinds) k = cond (eqb (p .0) k) (p .1) (countOfKind kinds k)
+
+-- the counts of kinds k, k + 1, .. (n of them)
+abbrev pub countsFrom : List (ℕ × ℕ) → ℕ → ℕ → List ℕ
+countsFrom kinds k zero = []
+countsFrom kinds k (suc n) = countOfKind kinds k ∷ countsFrom kinds (suc k) n
+
+abbrev pub bondsOf : List (ℕ × ℕ) → Bonds
+bondsOf kinds = record { count = countsFrom kinds 1 22 }
+
+-- (0.00, 1000), (10.00, 2000), (20.00, 4000)
+abbrev pub workedCurve : Curve
+workedCurve = curve (pos 0 ∷ pos 1000 ∷ pos 2000 ∷ []) (1000 ∷ 2000 ∷ 4000 ∷ [])
+
+abbrev pub answer : Case → Printed
+answer (formula t) = printedBy (λ (a : Atoms). counts (a .count)) (reading (bytes t))
+answer (fraction t) = printedBy (λ (n : ℕ). figures (n ∷ [])) (ofText stoichiometricFraction (bytes t))
+answer (limits t) = printedBy both (ofText (fuelLimits (some fitTemperature)) (bytes t))
+answer (limitsAt t k) = printedBy both (ofText (fuelLimits (some (pos k))) (bytes t))
+answer (concentrations t k) = printedBy both (ofText (massConcentration (pos k)) (bytes t))
+answer (flash m t kinds boiling) = printedBy degrees (ofText (λ (a : Atoms). byBonds m a (bondsOf kinds) (pos boiling)) (bytes t))
+answer (lowerTemperature t) = printedBy degrees (ofText (λ (a : Atoms). lowerTemperatureLimit a workedCurve) (bytes t))
+answer (flashOnCurve m t diffusion) = printedBy degrees (ofText (λ (a : Atoms). flashByCurve m a diffusion workedCurve) (bytes t))
+
+pub record Example : Type 0 where
+  pub asked : Case
+  pub printed : Printed
+
+abbrev pub examples : List Example
+examples =
+    record { asked = formula "CH3CH(OH)CH3"; printed = counts (3 ∷ 8 ∷ 1 ∷ 0 ∷ 0 ∷ 0 ∷ 0 ∷ 0 ∷ 0 ∷ 0 ∷ []) }
+    ∷ record { asked = formula "c"; printed = refusal 1 0 }
+    ∷ record { asked = limits "CH4"; printed = figures (454 ∷ 2732 ∷ []) }
+    ∷ record { asked = fraction "CH4"; printed = figures (936 ∷ []) }
+    ∷ record { asked = limitsAt "CH4" 13400; printed = figures (414 ∷ 3099 ∷ []) }
+    ∷ record { asked = concentrations "CH4" 13400; printed = figures (1984 ∷ 14848 ∷ []) }
+    ∷ record { asked = limits "C6H6"; printed = figures (143 ∷ 821 ∷ []) }
+    ∷ record { asked = limits "CO2"; printed = refusal 4 0 }
+    ∷ record { asked = flash 1 "C2H5OH" ((1, 1) ∷ (4, 5) ∷ (5, 1) ∷ (18, 1) ∷ []) 7840; printed = degrees (pos 839) }
+    ∷ record { asked = flash 2 "C2H5OH" ((1, 1) ∷ (4, 5) ∷ (5, 1) ∷ (18, 1) ∷ []) 7840; printed = degrees (pos 1336) }
+    ∷ record { asked = flash 3 "C2H5OH" ((1, 1) ∷ (4, 5) ∷ (5, 1) ∷ (18, 1) ∷ []) 7840; printed = degrees (pos 1891) }
+    ∷ record { asked = flash 1 "C6H6" ((2, 6) ∷ (4, 6) ∷ []) 8005; printed = degrees (negℤ (pos 1544)) }
+    ∷ record { asked = lowerTemperature "C2H6"; printed = degrees (pos 1444) }
+    ∷ record { asked = lowerTemperature "CH4"; printed = refusal 13 0 }
+    ∷ record { asked = flashOnCurve 1 "C6H6" 800; printed = degrees (pos 669) }
+    ∷ []
+
+-- every answer is the printed one
+abbrev pub AllAsPrinted : Type 0
+AllAsPrinted = map (λ (e : Example). answer (e .asked)) examples ≡ map (λ (e : Example). e .printed) examples
