@@ -1,19 +1,19 @@
 -- Laws of fields, by their positions in a line, and of tests on each byte.
 use mathlib.Core.Path.{_≡_, refl, sym, ap, _∙_}
-use mathlib.Core.Bool.{Bool, true, false}
+use mathlib.Core.Bool.{Bool, true, false, cond}
 use mathlib.Core.List.{List, [], _∷_}
 use Prim.Native.Nat.{ℕ, zero, suc, _+_, _-_, _≤_, _<_}
 use native.Mathlib.Nat.{add-zero}
 use native.Mathlib.Numerals.{add-one}
 use native.Mathlib.Omega.{arith}
-use borrow.Author.Tests.{eq-eqb, ne-eqb, eqb-true, eqb-false}
+use borrow.Author.Tests.{ne-eqb}
 use lib.Dec.{eqb}
 use lib.ListN.{length, getD, take, drop, drop-of-length-le, length-drop}
 use lib.Seq.{getD-drop, drop-cons, drop-drop}
 use Rattle.answer.proofs.Tests.{both}
 use Rattle.text.specs.Bytes.{byte}
 use Rattle.csv.specs.declared.Span.{Span}
-use Rattle.csv.specs.Lines.{comma, before, field, fields, fieldAt, all}
+use Rattle.csv.specs.Lines.{comma, push, before, field, fields, fieldAt, all}
 use Rattle.csv.proofs.Spans.{sized, span-bytes, span-next}
 
 -- a comma at i
@@ -49,14 +49,6 @@ later-at [] zero = refl
 later-at [] (suc k) = refl
 later-at (c ∷ l) k = refl
 
-later-more : (l : List ℕ) → 0 < length l → later l ≡ fields (drop 1 l)
-later-more [] h = absurd (omega arith)
-later-more (c ∷ l) h = refl
-
-later-last : (l : List ℕ) → length l ≤ 0 → later l ≡ []
-later-last [] h = refl
-later-last (c ∷ l) h = absurd (omega arith)
-
 module _ (l : List ℕ) (at : ℕ) (h : at ≤ length l) (r : Span) (e : r ≡ fieldAt l at) where
   next-is : drop (r .next) l ≡ drop 1 (left (drop at l))
   next-is = span-next comma l at 1 h r e ∙ sym (drop-drop 1 (length (field (drop at l))) (drop at l))
@@ -71,22 +63,25 @@ module _ (l : List ℕ) (at : ℕ) (h : at ≤ length l) (r : Span) (e : r ≡ f
   pub field-later : (k : ℕ) → getD (fields (drop at l)) (suc k) [] ≡ getD (fields (drop (r .next) l)) k []
   field-later k = rw next-is (ap (λ (fs : List (List ℕ)). getD fs (suc k) []) (fields-step (drop at l)) ∙ later-at (left (drop at l)) k)
 
-  -- how many
-  pub fields-more : r .end < length l → length (fields (drop at l)) ≡ suc (length (fields (drop (r .next) l)))
-  fields-more k = rw next-is (ap length (fields-step (drop at l)) ∙ rw (later-more (left (drop at l)) (omega (arith, left-size))))
+-- how many, while a loop passes the bytes: one more for each comma
+push-length : (a : ℕ) (fs : List (List ℕ)) → 0 < length fs → length (push a fs) ≡ length fs
+push-length a [] h = absurd (omega arith)
+push-length a (f ∷ fs) h = refl
 
-  pub fields-last : length l ≤ r .end → length (fields (drop at l)) ≡ 1
-  fields-last k = ap length (fields-step (drop at l)) ∙ rw (later-last (left (drop at l)) (omega (arith, left-size)))
-
-pub same-counts : (a b m n : ℕ) → (a ≡ b → m ≡ n) → (m ≡ n → a ≡ b) → eqb a b ≡ eqb m n
-same-counts a b m n f g = go (eqb m n) refl
+pub count-more : (l : List ℕ) (i : ℕ) → i < length l → length (fields (drop i l)) ≡ cond (eqb (getD l i 0) (byte ",")) 1 0 + length (fields (drop (i + 1) l))
+unfolding fields comma
+count-more l i h = rw (drop-cons l i 0 h, add-one i) (go (eqb (getD l i 0) (byte ",")) refl)
   where
-    go : (t : Bool) → eqb m n ≡ t → eqb a b ≡ eqb m n
-    go true e = eq-eqb a b (g (eqb-true m n e)) ∙ sym e
-    go false e = ne-eqb a b (λ h. eqb-false m n e (f h)) ∙ sym e
+    rest : List (List ℕ)
+    rest = fields (drop (suc i) l)
 
-pub some-field : (l : List ℕ) → 0 < length (fields l)
-some-field l = rw (fields-step l) (omega arith)
+    go : (b : Bool) → eqb (getD l i 0) (byte ",") ≡ b → length (cond b ([] ∷ rest) (push (getD l i 0) rest)) ≡ cond b 1 0 + length rest
+    go true e = omega arith
+    go false e = push-length (getD l i 0) rest (rw (fields-step (drop (suc i) l)) (omega arith)) ∙ omega arith
+
+pub count-end : (l : List ℕ) (i : ℕ) → length l ≤ i → length (fields (drop i l)) ≡ 1
+unfolding fields
+count-end l i h = rw (drop-of-length-le l h)
 
 -- a test on each byte, while a loop passes them
 module _ (test : ℕ → Bool) (s : List ℕ) (i : ℕ) where

@@ -1,7 +1,7 @@
 // RFC 4180 text: the lines of a text, the fields of a line, the form of a record, and a sheet's header.
 ghost use mathlib.Core.Path.{_≡_};
-ghost use Prim.Native.Nat.{_<_};
-ghost use lib.Dec.{eqb};
+ghost use mathlib.Core.Bool.{cond};
+ghost use Prim.Native.Nat.{_≤_, _<_};
 ghost use lib.ListN.{length, drop};
 ghost use Rattle.csv.specs.Lines.{crlf, fields, lineAt, fieldAt, all, plain};
 ghost use Rattle.csv.specs.Sheet.{headed, formed};
@@ -78,21 +78,24 @@ fn is_plain_line(l: &[u8]) -> bool
     true
 }
 
-// Whether a line has exactly n fields.
-fn has_fields(l: &[u8], n: usize) -> bool
-    ensures { λ r. ⌜ r ≡ eqb (length (fields (now (l .entry)))) n ⌝ }
+// 1 where a test holds, else 0.
+fn one_if(test: bool) -> usize
+    ensures { λ r. ⌜ (r ≡ cond test 1 0) × (r ≤ 1) ⌝ }
 {
-    let mut at = 0;
-    let mut left = n;
-    while 0 < left {
-        let field = field_at(l, at);
-        left -= 1;
-        if field.end == l.len() {
-            return left == 0;
-        }
-        at = field.next;
+    if test { 1 } else { 0 }
+}
+
+// How many fields a line has: one more than commas.
+fn field_count(l: &[u8]) -> usize
+    ensures { λ r. ⌜ r ≡ length (fields (now (l .entry))) ⌝ }
+{
+    let mut count: usize = 1;
+    let mut i = 0;
+    while i < l.len() {
+        count += one_if(l[i] == b',');
+        i += 1;
     }
-    false
+    count
 }
 
 // Whether a line has the form of a record of n fields: no quote mark, CR or LF, and exactly so many fields.
@@ -102,7 +105,7 @@ pub fn is_formed(l: &[u8], n: usize) -> bool
     if !is_plain_line(l) {
         return false;
     }
-    has_fields(l, n)
+    field_count(l) == n
 }
 
 // Whether a sheet has at most 64 KiB and begins with the header line.

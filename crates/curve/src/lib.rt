@@ -47,14 +47,13 @@ struct Found {
 pub fn kelvin(t: i64) -> u64
     ensures { λ r. ⌜ r ≡ kelvinOf t ⌝ }
 {
-    let far = size(t);
-    if 0 <= t {
-        return far + 27300;
+    if t < -27300 {
+        return 0;
     }
-    if far < 27300 {
-        return 27300 - far;
+    if t < 0 {
+        return (27300 + t) as u64;
     }
-    0
+    t as u64 + 27300
 }
 
 // A number brought to low to high.
