@@ -1,7 +1,7 @@
 -- Accepted curves: how the check's number tells them, and what is known of their points and segments.
 use mathlib.Core.Path.{_≡_, refl}
 use mathlib.Core.Bool.{Bool, true, false, not, _&&_}
-use mathlib.Core.Option.{Option, some, none, Option·getD}
+use mathlib.Core.Option.{Option, some, none}
 use Prim.Native.Nat.{ℕ, suc, _-_, _≤_, _<_}
 use native.Mathlib.Nat.{le-of-lt}
 use native.Mathlib.Omega.{arith}
@@ -21,7 +21,7 @@ use Rattle.answer.proofs.Tests.{both, neither}
 use Rattle.curve.specs.declared.Segment.{Segment}
 use Rattle.curve.specs.Smallest.{kelvin}
 use Rattle.curve.specs.Curve.{Curve, points, degrees, temperature, pressure, first, last, segment, sizes, sized, outOfRange, rising, badPoint, firstBadPoint, accepting, Accepted}
-use Rattle.curve.specs.Internal.{indexOf, Sloped}
+use Rattle.curve.specs.Internal.{Sloped}
 use Rattle.curve.proofs.Rising.{rises}
 
 -- a curve is refused with number 11, or is accepted
@@ -42,12 +42,12 @@ module _ (k : Curve) (r : Refusal) (e : r ≡ refusalOf (accepting k)) where
   pub accepted : r .number ≤ 0 → Accepted k
   accepted l = by-acceptance k (λ o. refusalOf o .number ≤ 0 → o ≡ answered k) (λ p l. absurd (omega arith)) (λ l. refl) (rw e at l)
 
-pub sized-facts : (n m : ℕ) → sizes n m ≡ true → (n ≡ m) × (2 ≤ n) × (n ≤ 4096)
+pub sized-facts : (n m : ℕ) → sizes n m ≡ true → (2 ≤ n) × (n ≤ 4096) × (n ≡ m)
 unfolding sizes
 sized-facts n m e =
     let h = both (eqb n m) (leb 2 n && leb n 4096) e in
     let g = both (leb 2 n) (leb n 4096) (h .1) in
-    (eqb-true n m (h .0), leb-true 2 n (g .0), leb-true n 4096 (g .1))
+    (leb-true 2 n (g .0), leb-true n 4096 (g .1), eqb-true n m (h .0))
 
 kelvin-most : (z : ℤ) → natAbs z ≤ 60000 → kelvin z ≤ 87300
 kelvin-most (pos n) h = omega arith
@@ -63,22 +63,6 @@ goes-up : (s : Segment) → rising s ≡ true → (s .from < s .to) × (s .low <
 unfolding rising
 goes-up s e = let h = both (ltb (s .from) (s .to)) (ltb (s .low) (s .high)) e in (ltb-true _ _ (h .0), ltb-true _ _ (h .1))
 
--- the first bad point, told by the index that it is answered as: the number of points is none
-pub bad-at : (k : Curve) → indexOf k < points k → firstBadPoint k ≡ some (indexOf k)
-bad-at k = go (firstBadPoint k)
-  where
-    go : (o : Option ℕ) → Option·getD o (points k) < points k → o ≡ some (Option·getD o (points k))
-    go (some r) l = refl
-    go none l = absurd (omega arith)
-
-pub none-bad : (k : Curve) → points k ≤ indexOf k → firstBadPoint k ≡ none
-unfolding firstBadPoint
-none-bad k = go _ (is-lowest (badPoint k) 0 (points k))
-  where
-    go : (o : Option ℕ) → IsLowest (badPoint k) 0 (points k) o → points k ≤ Option·getD o (points k) → o ≡ none
-    go (some r) h l = absurd (omega (arith, h .to))
-    go none h l = refl
-
 module _ (k : Curve) (ok : Accepted k) where
   passed : (sized k ≡ true) × (firstBadPoint k ≡ none)
   unfolding accepting
@@ -86,11 +70,8 @@ module _ (k : Curve) (ok : Accepted k) where
       let size = refuse-passed badCurve 0 (not (sized k)) (refuseAt badCurve (firstBadPoint k) (answered k)) k ok in
       (not-false _ (size .0), refuseAt-passed badCurve (firstBadPoint k) (answered k) k (size .1) .0)
 
-  pub paired : length (k .temperatures) ≡ length (k .pressures)
-  paired = sized-facts _ _ (passed .0) .0
-
-  pub many : (2 ≤ points k) × (points k ≤ 4096)
-  many = let h = sized-facts _ _ (passed .0) in (h .1, h .2)
+  pub many : (2 ≤ points k) × (points k ≤ 4096) × (points k ≡ length (k .pressures))
+  many = sized-facts _ _ (passed .0)
 
   good : (i : ℕ) → i < points k → badPoint k i ≡ false
   unfolding firstBadPoint
@@ -102,7 +83,7 @@ module _ (k : Curve) (ok : Accepted k) where
 
   pub range : (i : ℕ) → i < points k → (temperature k i ≤ 87300) × (pressure k i ≤ 250000)
   unfolding badPoint
-  range i h = in-range (degrees k i) (pressure k i) (neither (outOfRange (degrees k i) (pressure k i)) (ltb 0 i && not (rising (segment k i))) (good i h) .0)
+  range i h = in-range (degrees k i) (pressure k i) (neither _ _ (good i h) .0)
 
   above : (i : ℕ) → 0 < i → i < points k → (temperature k (i - 1) < temperature k i) × (pressure k (i - 1) < pressure k i)
   unfolding badPoint

@@ -1,18 +1,13 @@
 -- What the functions below the promises ask and say: segments of an accepted curve, and what a search finds. No public promise cites this file.
 use mathlib.Core.Path.{_≡_}
 use mathlib.Core.Bool.{true, false}
-use mathlib.Core.Option.{Option·getD}
 use Prim.Native.Nat.{ℕ, _-_, _≤_, _<_}
 use Rattle.answer.specs.Outcome.{shownTemperature}
 use Rattle.curve.specs.declared.Condition.{Condition}
 use Rattle.curve.specs.declared.Found.{Found}
 use Rattle.curve.specs.declared.Segment.{Segment}
-use Rattle.curve.specs.Curve.{Curve, points, temperature, pressure, firstBadPoint, searchedOn}
+use Rattle.curve.specs.Curve.{Curve, points, temperature, pressure, searchedOn}
 use Rattle.curve.specs.Condition.{testOf}
-
--- the first bad point, or the number of points
-abbrev pub indexOf : Curve → ℕ
-indexOf c = Option·getD (firstBadPoint c) (points c)
 
 -- a segment of an accepted curve
 pub record Sloped (s : Segment) : Type 0 where

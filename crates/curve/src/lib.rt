@@ -9,7 +9,7 @@ ghost use Rattle.answer.specs.Outcome.{answered, refusalOf, shownFigure, shownT
 ghost use Rattle.curve.specs.Smallest.{kelvin as kelvinOf, celsius, clamp as clampOf, smallest, met};
 ghost use Rattle.curve.specs.Curve.{curve, last, sizes, rising, badPoint, accepting, Accepted, between, segment, segmentOf, pressureAsked, onCurve, Sound};
 ghost use Rattle.curve.specs.Condition.{bounded, testOf, metWithin};
-ghost use Rattle.curve.specs.Internal.{indexOf, Sloped, FoundOn};
+ghost use Rattle.curve.specs.Internal.{Sloped, FoundOn};
 use answer::Figure;
 use answer::Refusal;
 use answer::Temperature;
@@ -137,21 +137,6 @@ fn is_bad_point(temperatures: &[i64], pressures: &[u64], i: usize) -> bool
     !is_rising(segment_at(temperatures, pressures, i))
 }
 
-// The first bad point, or the number of points.
-fn first_bad_point(temperatures: &[i64], pressures: &[u64]) -> usize
-    requires { ⌜ length (now temperatures) ≡ length (now pressures) ⌝ }
-    ensures { λ r. ⌜ r ≡ indexOf (curve (now (temperatures .entry)) (now (pressures .entry))) ⌝ }
-{
-    let mut i: usize = 0;
-    while i < temperatures.len() {
-        if is_bad_point(temperatures, pressures, i) {
-            return i;
-        }
-        i += 1;
-    }
-    i
-}
-
 // Whether a curve is accepted: refusal 11, or number 0.
 pub fn check_curve(temperatures: &[i64], pressures: &[u64]) -> Refusal
     ensures { λ r. ⌜ r ≡ refusalOf (accepting (curve (now (temperatures .entry)) (now (pressures .entry)))) ⌝ }
@@ -162,12 +147,15 @@ pub fn check_curve(temperatures: &[i64], pressures: &[u64]) -> Refusal
             place: 0,
         };
     }
-    let bad = first_bad_point(temperatures, pressures);
-    if bad < temperatures.len() {
-        return Refusal {
-            number: answer::BAD_CURVE,
-            place: bad as u64,
-        };
+    let mut i: usize = 0;
+    while i < temperatures.len() {
+        if is_bad_point(temperatures, pressures, i) {
+            return Refusal {
+                number: answer::BAD_CURVE,
+                place: i as u64,
+            };
+        }
+        i += 1;
     }
     Refusal {
         number: 0,

@@ -14,7 +14,7 @@ use Rattle.answer.specs.Outcome.{Outcome, refused, answered, refuse, andThen, s
 use Rattle.answer.specs.Outside.{outside}
 use Rattle.answer.proofs.Outcomes.{refuse-numbered, andThen-numbered}
 use Rattle.answer.proofs.Outside.{inside}
-use Rattle.rounding.specs.Fraction.{_over_, whole, _⊠_, atMost}
+use Rattle.rounding.specs.Fraction.{Fraction, _over_, whole, _⊠_, atMost}
 use Rattle.elements.specs.declared.Atoms.{Atoms}
 use Rattle.oxygen.specs.Admission.{admission}
 use Rattle.oxygen.proofs.Admissions.{admission-numbered, admitted-facts}
@@ -28,24 +28,26 @@ use Rattle.curve.specs.Curve.{Curve, onCurve}
 use Rattle.curve.specs.Condition.{holds, testOf}
 use Rattle.curve.proofs.Conditions.{test-is}
 use Rattle.ignition.specs.declared.Asked.{Asked}
-use Rattle.ignition.specs.Questions.{reaches, threshold, ignites, purposeOf, limitTest, flashTest}
+use Rattle.ignition.specs.Questions.{partOfPressure, reaches, threshold, product, ignites, purposeOf, limitTest, flashTest}
 use Rattle.ignition.specs.Conditions.{byPressure, byProduct, limitCondition, flashCondition, shownCondition, testedBy}
 use Rattle.ignition.specs.Internal.{putToCurve}
 
-leb-same : (a b c d : ℕ) → (a ≤ b → c ≤ d) → (c ≤ d → a ≤ b) → leb a b ≡ leb c d
-leb-same a b c d h g = go (decLt b a) (decLt d c)
+-- a condition that agrees with a comparison of fractions
+at-most-same : (a b : ℕ) (f g : Fraction) → (a ≤ b → f .num * g .den ≤ g .num * f .den) → (f .num * g .den ≤ g .num * f .den → a ≤ b) → leb a b ≡ atMost f g
+unfolding atMost
+at-most-same a b f g h k = go (decLt b a) (decLt (g .num * f .den) (f .num * g .den))
   where
-    go : Dec (b < a) → Dec (d < c) → leb a b ≡ leb c d
-    go (yes l) (yes m) = lt-leb a b l ∙ sym (lt-leb c d m)
-    go (yes l) (no m) = absurd (let k = g (omega arith) in omega arith)
-    go (no l) d′ = le-leb a b (omega arith) ∙ sym (le-leb c d (h (omega arith)))
+    go : Dec (b < a) → Dec (g .num * f .den < f .num * g .den) → leb a b ≡ leb (f .num * g .den) (g .num * f .den)
+    go (yes l) (yes m) = lt-leb _ _ l ∙ sym (lt-leb _ _ m)
+    go (yes l) (no m) = absurd (let n = k (omega arith) in omega arith)
+    go (no l) d = le-leb a b (omega arith) ∙ sym (le-leb _ _ (h (omega arith)))
 
 -- THE LOWER TEMPERATURE LIMIT
 reaches-is : (limit : ℕ) → testOf (byPressure limit) ≡ reaches limit
-unfolding holds reaches atMost _over_ whole _⊠_
+unfolding holds reaches partOfPressure _over_ whole _⊠_
 reaches-is limit =
     test-is (byPressure limit) (reaches limit) (omega arith) (omega arith)
-    (λ t p. leb-same (1013 * limit) ((0 * t + 100) * p) (limit * 1 * 101300 * 1) (p * (100 * 100 * 1)) (λ h. omega arith) (λ h. omega arith))
+    (λ t p. at-most-same (1013 * limit) ((0 * t + 100) * p) (partOfPressure limit) (whole p) (λ h. omega arith) (λ h. omega arith))
 
 pub limit-tested : (a : Atoms) → testedBy (limitCondition a) ≡ limitTest a
 unfolding limitCondition limitTest
@@ -61,10 +63,10 @@ limit-numbered a = andThen-numbered (fuelLimits (some fitTemperature) a) _ (fuel
 
 -- FORMULA (35): the largest slope is 20,000 · 3,800
 ignites-is : (m diffusion q : ℕ) → diffusion ≤ 20000 → q ≤ 3800 → testOf (byProduct (threshold m) diffusion q) ≡ ignites m diffusion q
-unfolding holds ignites atMost _over_ whole _⊠_
+unfolding holds ignites product _over_ whole _⊠_
 ignites-is m diffusion q h l =
     test-is (byProduct (threshold m) diffusion q) (ignites m diffusion q) (omega (arith, mul-le-mul h l)) (omega arith)
-    (λ t p. leb-same (threshold m * 4000000000) ((diffusion * q * t + 0) * p) (threshold m * (100 * 1000 * 10000 * 4)) (t * p * diffusion * q * 1) (λ h. omega arith) (λ h. omega arith))
+    (λ t p. at-most-same (threshold m * 4000000000) ((diffusion * q * t + 0) * p) (whole (threshold m)) (product diffusion q t p) (λ h. omega arith) (λ h. omega arith))
 
 pub flash-tested : (m : ℕ) (a : Atoms) (diffusion : ℕ) → testedBy (flashCondition m a diffusion) ≡ flashTest m a diffusion
 unfolding flashCondition flashTest

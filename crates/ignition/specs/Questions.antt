@@ -8,7 +8,7 @@ use lib.IntN.{ℤ, pos}
 use Rattle.answer.specs.Numbers.{unknownMethod, diffusionOutside}
 use Rattle.answer.specs.Outcome.{Outcome, answered, refuse, andThen}
 use Rattle.answer.specs.Outside.{outside}
-use Rattle.rounding.specs.Fraction.{_over_, whole, _⊠_, atMost}
+use Rattle.rounding.specs.Fraction.{Fraction, _over_, whole, _⊠_, atMost}
 use Rattle.elements.specs.declared.Atoms.{Atoms}
 use Rattle.oxygen.specs.declared.Purpose.{Purpose}
 use Rattle.oxygen.specs.declared.Purpose.the-variants.{OxygenCoefficient, FirePoint}
@@ -19,8 +19,11 @@ use Rattle.curve.specs.Smallest.{Test}
 use Rattle.curve.specs.Curve.{Curve, onCurve}
 
 -- LOWER TEMPERATURE LIMIT: pressure ≥ φ/100 of 101,300 Pa, φ in percent the lower limit as answered at the temperature of the fit
+unfoldable pub partOfPressure : ℕ → Fraction
+partOfPressure limit = (limit over 100) ⊠ (1 over 100) ⊠ whole 101300
+
 unfoldable pub reaches : ℕ → Test
-reaches limit t p = atMost ((limit over 100) ⊠ (1 over 100) ⊠ whole 101300) (whole p)
+reaches limit t p = atMost (partOfPressure limit) (whole p)
 
 unfoldable pub limitTest : Atoms → Outcome Test
 limitTest a = andThen (fuelLimits (some fitTemperature) a) (λ l. answered (reaches (l .lower)))
@@ -32,8 +35,11 @@ lowerTemperatureLimit a c = andThen (limitTest a) (λ test. onCurve test c)
 unfoldable pub threshold : ℕ → ℕ
 threshold m = cond (eqb m 1) 280 (cond (eqb m 2) 427 453)
 
+unfoldable pub product : ℕ → ℕ → ℕ → ℕ → Fraction
+product diffusion q t p = (t over 100) ⊠ (p over 1000) ⊠ (diffusion over 10000) ⊠ (q over 4)
+
 unfoldable pub ignites : ℕ → ℕ → ℕ → Test
-ignites m diffusion q t p = atMost (whole (threshold m)) ((t over 100) ⊠ (p over 1000) ⊠ (diffusion over 10000) ⊠ (q over 4))
+ignites m diffusion q t p = atMost (whole (threshold m)) (product diffusion q t p)
 
 -- the fire point is for C, H, O, N only; the others for what β admits
 abbrev pub purposeOf : ℕ → Purpose

@@ -17,12 +17,6 @@ module _ (c : tie.After-clamp) where
   pub is : toZ w64 (c .clamp .result) ≡ pos (c .clamp .result)
   is = toZ-pos w64 (omega (arith, small))
 
-cast-answered-temperature : tie.Need-cast-answered-temperature
-cast-answered-temperature c = record { sfits = omega (arith, small c) }
-
-sub-answered-temperature : tie.Need-sub-answered-temperature
-sub-answered-temperature c = rw (is c) (lowered-fits _ (small c))
-
 returns : tie.Need-returns
 returns c =
     let k = c .before in
@@ -31,4 +25,4 @@ returns c =
 pub answer-at-spec : {M : Type 1} → statement M
 answer-at-spec =
     tie.close
-    (tie.spec (λ c κs. tt) cast-answered-temperature sub-answered-temperature (λ c κs. tt) returns)
+    (tie.spec (λ c κs. tt) (λ c. record { sfits = omega (arith, small c) }) (λ c. rw (is c) (lowered-fits _ (small c))) (λ c κs. tt) returns)

@@ -22,9 +22,6 @@ abbrev μ-loop : tie.MeasureT-loop
 loop-holds : tie.Need-loop-holds Inv-loop μ-loop
 loop-holds c = record { from = omega arith; apart = c .pre .0 .warmer; to = le-refl _; fails = λ _. c .pre .1; passes = c .pre .2 }
 
-pressure-on-requires : tie.Need-pressure-on-requires Inv-loop μ-loop
-pressure-on-requires c κs = (c .before .before .pre .0, omega arith, omega arith)
-
 -- what the test of a middle says of the segment's pressure there
 test : (c : tie.After-is-met Inv-loop μ-loop) → let at = c .before .before .before in let m = at .loop .low + (at .loop .high - at .loop .low) / 2 in c .is-met .result ≡ testOf (at .before .args .c) m (between (at .before .args .s) m)
 test c =
@@ -55,7 +52,7 @@ hundredth-spec =
     (λ c. omega arith)
     (λ c. omega arith)
     (λ c. omega arith)
-    pressure-on-requires
+    (λ c κs. (c .before .before .pre .0, omega arith, omega arith))
     (λ c κs. tt)
     (λ c. omega arith)
     loop-again

@@ -7,7 +7,6 @@ use denote.Ref.{now}
 use mir.Syntax.{w64}
 use mir.Val.{SFits}
 use mir.Facts.{toZ-ofZ}
-use borrow.Author.Needs.{needs}
 use borrow.Author.Tests.{lt-ltb}
 use Rattle.answer.specs.Outside.{outside}
 use Rattle.curve.specs.Curve.{Curve, curve, degrees, pressure, outOfRange, rising, badPoint}
@@ -51,15 +50,15 @@ pub is-bad-point-spec : {M : Type 1} → statement M
 is-bad-point-spec =
     tie.close
     (tie.spec
-    (λ c. search needs)
-    (λ c. search needs)
+    (λ c. omega arith)
+    (λ c. omega arith)
     (λ c κs. tt)
     returns
-    (λ c. search needs)
-    (λ c. search needs)
+    (λ c. omega arith)
+    (λ c. omega arith)
     (λ c κs. tt)
     returns-2
     returns-3
-    (λ c κs. search needs)
+    (λ c κs. (omega arith, omega arith, omega arith))
     (λ c κs. tt)
     returns-4)

@@ -45,9 +45,6 @@ returns : tie.Need-returns
 unfolding pressureAsked
 returns c = rw (declined _ _ (c .before .before .before .check-curve .ensures) (omega arith)) (c .refused-figure .ensures)
 
-segment-of-requires : tie.Need-segment-of-requires
-segment-of-requires c κs = (ok (e c), inside c .1)
-
 pressure-on-requires : tie.Need-pressure-on-requires
 pressure-on-requires c κs =
     let o = on (c .before) in
@@ -74,7 +71,7 @@ pressure-at-spec =
     (λ c κs. omega (arith, long (c .before)))
     (λ c κs. tt)
     (λ c κs. tt)
-    segment-of-requires
+    (λ c κs. (ok (e c), inside c .1))
     pressure-on-requires
     (λ c κs. tt)
     returns-2)

@@ -13,7 +13,7 @@ use Rattle.curve.specs.Condition.{testOf}
 use Rattle.curve.specs.Internal.{Crossed}
 use Rattle.curve.proofs.Signed.{clamp-is}
 use Rattle.curve.proofs.Conditions.{met-within}
-use Rattle.curve.proofs.Acceptance.{paired, many, range}
+use Rattle.curve.proofs.Acceptance.{many, range}
 use Rattle.curve.proofs.Searches.{refuses, met-at, fails-throughout, ready, here, search-in}
 use Rattle.curve.proofs.search.Statement.{statement}
 use Rattle.curve.proofs.search.Tie as tie
@@ -28,15 +28,9 @@ abbrev μ-loop : tie.MeasureT-loop
 abbrev lent : tie.Start Inv-loop μ-loop → Curve
 lent s = curve (now (s .args .temperatures)) (now (s .args .pressures))
 
--- the lists are equally long, and not too long
-equal : (s : tie.Start Inv-loop μ-loop) → points (lent s) ≡ length (now (s .args .pressures))
-equal s = paired (lent s) (s .pre)
-
-long : (s : tie.Start Inv-loop μ-loop) → (2 ≤ points (lent s)) × (points (lent s) ≤ 4096)
+-- the lists are not too long, and equally long
+long : (s : tie.Start Inv-loop μ-loop) → (2 ≤ points (lent s)) × (points (lent s) ≤ 4096) × (points (lent s) ≡ length (now (s .args .pressures)))
 long s = many (lent s) (s .pre)
-
-loop-holds : tie.Need-loop-holds Inv-loop μ-loop
-loop-holds c = (omega arith, λ k h. absurd (omega arith))
 
 -- what the test of a point says of the curve
 test : (c : tie.After-is-met Inv-loop μ-loop) → let at = c .before .before .before .before in let s = at .before .before in
@@ -48,7 +42,7 @@ test c =
     rw (c .before .before .temperature-at .ensures) at (c .is-met .ensures) ∙ met-within (s .args .c) _ _ (r .0) (r .1)
 
 segment-at-requires : tie.Need-segment-at-requires Inv-loop μ-loop
-segment-at-requires c κs = (omega arith, omega arith, omega (arith, equal (c .before .before .before .before .before .before .before .before)))
+segment-at-requires c κs = (omega arith, omega arith, omega (arith, long (c .before .before .before .before .before .before .before .before)))
 
 -- at the first point that passes, which is not the first point
 module _ (c : tie.Else3 Inv-loop μ-loop) where
@@ -107,11 +101,11 @@ search-spec =
     (tie.spec
     Inv-loop
     μ-loop
-    loop-holds
+    (λ c. (omega arith, λ k h. absurd (omega arith)))
     (λ c κs. tt)
     (λ c κs. omega arith)
     (λ c. omega (arith, long (c .before .before .before .before)))
-    (λ c. omega (arith, equal (c .before .before .before .before .before)))
+    (λ c. omega (arith, long (c .before .before .before .before .before)))
     (λ c κs. tt)
     (λ c κs. tt)
     segment-at-requires

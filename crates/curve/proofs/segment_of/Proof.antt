@@ -1,5 +1,5 @@
 -- `segment_of` meets its contract. The invariant: t is above point `low`, or that is the first, and not above point `high`.
-use mathlib.Core.Path.{ap, _∙_}
+use mathlib.Core.Path.{_≡_, ap, _∙_}
 use Prim.Native.Nat.{_-_, _≤_}
 use native.Mathlib.Nat.{le-refl}
 use native.Mathlib.Omega.{arith}
@@ -8,7 +8,7 @@ use denote.Ref.{now}
 use lib.ListN.{length}
 use Rattle.curve.specs.Curve.{Curve, curve, points, segment}
 use Rattle.curve.proofs.Smallest.{Bracket, lowered, raised}
-use Rattle.curve.proofs.Acceptance.{paired, many}
+use Rattle.curve.proofs.Acceptance.{many}
 use Rattle.curve.proofs.Curves.{notBelow, halved}
 use Rattle.curve.proofs.segment_of.Statement.{statement}
 use Rattle.curve.proofs.segment_of.Tie as tie
@@ -22,14 +22,11 @@ abbrev μ-loop : tie.MeasureT-loop
 abbrev lent : tie.Start Inv-loop μ-loop → Curve
 lent s = curve (now (s .args .temperatures)) (now (s .args .pressures))
 
-long : (s : tie.Start Inv-loop μ-loop) → (2 ≤ points (lent s)) × (points (lent s) ≤ 4096)
+long : (s : tie.Start Inv-loop μ-loop) → (2 ≤ points (lent s)) × (points (lent s) ≤ 4096) × (points (lent s) ≡ length (now (s .args .pressures)))
 long s = many (lent s) (s .pre .0)
 
 loop-holds : tie.Need-loop-holds Inv-loop μ-loop
 loop-holds c = record { from = omega arith; apart = omega (arith, long (c .before)); to = le-refl _; fails = λ l. absurd (omega arith); passes = le-leb _ _ (c .before .pre .1) }
-
-temperature-at-requires : tie.Need-temperature-at-requires Inv-loop μ-loop
-temperature-at-requires c κs = omega arith
 
 loop-again : tie.Need-loop-again Inv-loop μ-loop
 loop-again c = lowered _ _ _ _ _ (c .before .before .before .loop .inv) _ (omega arith) (omega arith) (rw (c .before .temperature-at .ensures) at (le-leb _ _ (c .if1 .taken)))
@@ -40,7 +37,7 @@ loop-again-2 c = raised _ _ _ _ _ (c .before .before .before .loop .inv) _ (omeg
 segment-at-requires : tie.Need-segment-at-requires Inv-loop μ-loop
 segment-at-requires c κs =
     let s = c .before .before .before in
-    (omega arith, omega (arith, long s), omega (arith, long s, paired (lent s) (s .pre .0)))
+    (omega arith, omega (arith, long s), omega (arith, long s))
 
 returns : tie.Need-returns Inv-loop μ-loop
 returns c =
@@ -59,7 +56,7 @@ segment-of-spec =
     (λ c. omega arith)
     (λ c. omega arith)
     (λ c. omega (arith, long (c .before .before .before)))
-    temperature-at-requires
+    (λ c κs. omega arith)
     (λ c. omega arith)
     loop-again
     (λ c. omega arith)

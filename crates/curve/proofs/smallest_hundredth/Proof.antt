@@ -19,9 +19,6 @@ returns c =
     let k = c .before .before .before in
     rw (declined _ _ (k .check-curve .ensures) (omega arith)) (c .refused-temperature .ensures, sound _)
 
-search-requires : tie.Need-search-requires
-search-requires c κs = ok c
-
 returns-2 : tie.Need-returns-2
 unfolding onCurve
 returns-2 c = rw (ok (c .before .before)) (c .before .search .ensures .answer, sound _)
@@ -29,4 +26,4 @@ returns-2 c = rw (ok (c .before .before)) (c .before .search .ensures .answer, s
 pub smallest-hundredth-spec : {M : Type 1} → statement M
 smallest-hundredth-spec =
     tie.close
-    (tie.spec (λ c κs. tt) (λ c κs. tt) returns search-requires returns-2)
+    (tie.spec (λ c κs. tt) (λ c κs. tt) returns (λ c κs. ok c) returns-2)

@@ -4,7 +4,6 @@ use mathlib.Core.Bool.{false}
 use Prim.Native.Nat.{_*_, _≤_}
 use native.Mathlib.Nat.{mul-le-mul}
 use native.Mathlib.Omega.{arith}
-use borrow.Author.Needs.{needs}
 use lib.IntN.{pos}
 use Rattle.answer.specs.Outcome.{refused, answered, shownFigure}
 use Rattle.answer.specs.Outside.{outside}
@@ -59,9 +58,6 @@ returns-3 c =
     let o = c .before .before in
     (rw (known (o .before .before .before .before .before .before), admitted (o .before), sym (o .is-outside2 .ensures) ∙ c .before .if3 .taken) (c .not-asked3 .ensures), flash-tested _ _ _)
 
-mul-t10 : tie.Need-mul-t10
-mul-t10 c = omega (arith, product (c .before))
-
 returns-4 : tie.Need-returns-4
 unfolding flashCondition
 returns-4 c =
@@ -83,8 +79,8 @@ flash-condition-spec =
     (λ c κs. tt)
     (λ c κs. tt)
     returns-3
-    mul-t10
+    (λ c. omega (arith, product (c .before)))
     (λ c κs. tt)
-    (λ c. search needs)
+    (λ c. omega arith)
     (λ c κs. tt)
     returns-4)

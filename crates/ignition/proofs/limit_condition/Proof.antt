@@ -2,7 +2,6 @@
 use mathlib.Core.Path.{_≡_}
 use mathlib.Core.Option.{some}
 use native.Mathlib.Omega.{arith}
-use borrow.Author.Needs.{needs}
 use Rattle.answer.specs.Outcome.{refused, answered}
 use Rattle.blend.specs.Limit.{fitTemperature}
 use Rattle.blend.proofs.Told.{pairOf, limits-refused, limits-answered}
@@ -34,6 +33,6 @@ limit-condition-spec =
     (λ c κs. tt)
     (λ c κs. tt)
     returns
-    (λ c. search needs)
+    (λ c. omega arith)
     (λ c κs. tt)
     returns-2)
