@@ -3,7 +3,7 @@ ghost use mathlib.Core.Path.{_≡_};
 ghost use mathlib.Core.Bool.{cond};
 ghost use Prim.Native.Nat.{_≤_, _<_};
 ghost use lib.ListN.{length, drop};
-ghost use Rattle.csv.specs.Lines.{crlf, fields, lineAt, fieldAt, all, plain};
+ghost use Rattle.csv.specs.Lines.{crlf, lineAt, fieldAt, plain};
 ghost use Rattle.csv.specs.Sheet.{headed, formed};
 use text::byte_at;
 
@@ -64,20 +64,6 @@ fn is_plain(b: u8) -> bool
     b != b'"' && (b != b'\r' && b != b'\n')
 }
 
-// Whether a line has no quote mark, CR or LF.
-fn is_plain_line(l: &[u8]) -> bool
-    ensures { λ r. ⌜ r ≡ all plain (now (l .entry)) ⌝ }
-{
-    let mut i = 0;
-    while i < l.len() {
-        if !is_plain(l[i]) {
-            return false;
-        }
-        i += 1;
-    }
-    true
-}
-
 // 1 where a test holds, else 0.
 fn one_if(test: bool) -> usize
     ensures { λ r. ⌜ (r ≡ cond test 1 0) × (r ≤ 1) ⌝ }
@@ -85,27 +71,20 @@ fn one_if(test: bool) -> usize
     if test { 1 } else { 0 }
 }
 
-// How many fields a line has: one more than commas.
-fn field_count(l: &[u8]) -> usize
-    ensures { λ r. ⌜ r ≡ length (fields (now (l .entry))) ⌝ }
+// Whether a line has the form of a record of n fields: no quote mark, CR or LF, and one comma less than fields.
+pub fn is_formed(l: &[u8], n: usize) -> bool
+    ensures { λ r. ⌜ r ≡ formed n (now (l .entry)) ⌝ }
 {
     let mut count: usize = 1;
     let mut i = 0;
     while i < l.len() {
+        if !is_plain(l[i]) {
+            return false;
+        }
         count += one_if(l[i] == b',');
         i += 1;
     }
-    count
-}
-
-// Whether a line has the form of a record of n fields: no quote mark, CR or LF, and exactly so many fields.
-pub fn is_formed(l: &[u8], n: usize) -> bool
-    ensures { λ r. ⌜ r ≡ formed n (now (l .entry)) ⌝ }
-{
-    if !is_plain_line(l) {
-        return false;
-    }
-    field_count(l) == n
+    count == n
 }
 
 // Whether a sheet has at most 64 KiB and begins with the header line.

@@ -1,6 +1,5 @@
 // Atom counts written in Hill order: the text is put together in a line of its own and then copied to the lent room.
 ghost use mathlib.Core.Path.{_≡_};
-ghost use mathlib.Core.Bool.{cond};
 ghost use Prim.Native.Nat.{_≤_};
 ghost use lib.ListN.{length, take};
 ghost use Rattle.answer.specs.Outcome.{refused, refusal};
@@ -97,22 +96,18 @@ fn hill_order(atoms: Atoms) -> [Element; 10]
     }
 }
 
-// How many bytes a symbol has, by whether it has a second one.
-fn size_of(two: bool) -> usize
-    ensures { λ r. ⌜ (r ≡ cond two 2 1) × (r ≤ 2) ⌝ }
-{
-    if two { 2 } else { 1 }
-}
-
 // Puts an element's symbol into out at a position, as text::put does.
 fn put_symbol(out: &mut [u8], at: usize, e: Element) -> usize
     ensures { λ r. ⌜ r ≡ behind (now (out .entry)) at (symbol e) ⌝ }
     ensures room { λ r. ⌜ now (out .exit) ≡ putAt (now (out .entry)) at (symbol e) ⌝ }
 {
     let second = second_letter(e);
-    let bytes = [first_letter(e), second];
-    let size = size_of(second != 0);
-    put(out, at, &bytes[..size])
+    if second == 0 {
+        let one = [first_letter(e)];
+        return put(out, at, &one);
+    }
+    let two = [first_letter(e), second];
+    put(out, at, &two)
 }
 
 // Puts an element with its count into out at a position, and answers the position behind it.

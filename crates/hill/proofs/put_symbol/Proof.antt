@@ -1,60 +1,54 @@
--- `put_symbol` meets its contract: one byte or two are a symbol.
-use mathlib.Core.Path.{_≡_, refl}
-use mathlib.Core.Bool.{not, cond}
+-- `put_symbol` meets its contract: a second letter of 0 is none.
+use mathlib.Core.Path.{_≡_, refl, ap, ap₂, _∙_}
 use mathlib.Core.List.{List, [], _∷_}
 use Prim.Native.Nat.{ℕ}
 use native.Mathlib.Omega.{arith}
 use borrow.Author.Needs.{needs}
-use borrow.Author.Tests.{ne-eqb}
-use lib.Dec.{eqb}
-use lib.ListN.{take, length-take}
 use Rattle.text.specs.Reader.{at}
 use Rattle.elements.specs.Elements.{symbol}
 use Rattle.elements.proofs.Elements.{Letters, one, two, letters}
 use Rattle.hill.proofs.put_symbol.Statement.{statement}
 use Rattle.hill.proofs.put_symbol.Tie as tie
 
+-- the bytes of a symbol
+one-byte : (w : List ℕ) → Letters w → at w 1 ≡ 0 → at w 0 ∷ [] ≡ w
+one-byte w (one a l h) z = refl
+one-byte w (two a b l h k) z = absurd (omega arith)
+
+two-bytes : (w : List ℕ) → Letters w → (at w 1 ≡ 0 → ⊥) → at w 0 ∷ at w 1 ∷ [] ≡ w
+two-bytes w (one a l h) n = absurd (n refl)
+two-bytes w (two a b l h k) n = refl
+
 -- the bytes that are lent to `put`
-spelt : (w : List ℕ) → Letters w → take (cond (not (eqb (at w 1) 0)) 2 1) (at w 0 ∷ at w 1 ∷ []) ≡ w
-spelt w (one a l h) = refl
-spelt w (two a b l h k) = rw (ne-eqb b 0 (λ z. omega arith))
+lent-one : (c : tie.After-first-letter) → c .first-letter .result ∷ [] ≡ symbol (c .before .before .before .before .args .e)
+lent-one c =
+    let s = c .before .before in
+    ap (λ (x : ℕ). x ∷ []) (c .first-letter .ensures) ∙ one-byte _ (letters (s .before .before .args .e)) (omega (arith, s .second-letter .ensures))
 
-lent : (c : tie.After-size-of) → take (c .size-of .result) (c .before .first-letter .result ∷ c .before .before .second-letter .result ∷ []) ≡ symbol (c .before .before .before .before .args .e)
-lent c = rw (c .size-of .ensures .0, c .before .first-letter .ensures, c .before .before .second-letter .ensures) (spelt _ (letters (c .before .before .before .before .args .e)))
-
-second-letter-requires : tie.Need-second-letter-requires
-second-letter-requires c κs = search needs
-
-first-letter-requires : tie.Need-first-letter-requires
-first-letter-requires c κs = search needs
-
-size-of-requires : tie.Need-size-of-requires
-size-of-requires c κs = search needs
-
-array-share-prefix-bytes : tie.Need-array-share-prefix-bytes
-array-share-prefix-bytes c = search needs
-
-slice-aggregate-put : tie.Need-slice-aggregate-put
-slice-aggregate-put c = simp length-take (omega arith)
-
-put-requires : tie.Need-put-requires
-put-requires c κs = search needs
-
-same-length : tie.Need-same-length
-same-length c = search needs
+lent-two : (c : tie.After-first-letter2) → c .first-letter2 .result ∷ c .before .before .second-letter .result ∷ [] ≡ symbol (c .before .before .before .before .args .e)
+lent-two c =
+    let s = c .before .before in
+    ap₂ (λ (x y : ℕ). x ∷ y ∷ []) (c .first-letter2 .ensures) (s .second-letter .ensures)
+    ∙ two-bytes _ (letters (s .before .before .args .e)) (λ z. omega (arith, s .second-letter .ensures))
 
 returns : tie.Need-returns
-returns c = let p = c .before .before in rw (lent (p .before .before .before)) at (p .put .ensures)
+returns c = let p = c .before .before in rw (lent-one (p .before .before .before)) at (p .put .ensures)
+
+returns-2 : tie.Need-returns-2
+returns-2 c = let p = c .before .before in rw (lent-two (p .before .before .before)) at (p .put2 .ensures)
 
 pub put-symbol-spec : {M : Type 1} → statement M
 put-symbol-spec =
     tie.close
     (tie.spec
-    second-letter-requires
-    first-letter-requires
-    size-of-requires
-    array-share-prefix-bytes
-    slice-aggregate-put
-    put-requires
-    same-length
-    returns)
+    (λ c κs. search needs)
+    (λ c κs. search needs)
+    (λ c. search needs)
+    (λ c κs. search needs)
+    (λ c. search needs)
+    returns
+    (λ c κs. search needs)
+    (λ c. search needs)
+    (λ c κs. search needs)
+    (λ c. search needs)
+    returns-2)
