@@ -25,6 +25,9 @@ enum { ROOM = 1 << 17 };
 /* 25 °C, at which the limits' formulas were fitted. */
 enum { FIT_TEMPERATURE = 2500 };
 
+/* 25 °C, which is meant where none is named. */
+enum { USUAL_TEMPERATURE = 2500 };
+
 /* Memory whose last byte stands before a page that may not be touched: a read past a lent slice ends the test. */
 static uint8_t *fence_end(void)
 {
@@ -84,6 +87,11 @@ static bool figure_refused(jlw_figure figure, uint64_t number, uint64_t place)
 static bool limits_are(jlw_limits limits, uint64_t lower, uint64_t upper)
 {
     return answered(limits.refusal) && limits.lower == lower && limits.upper == upper;
+}
+
+static bool same_limits(jlw_limits a, jlw_limits b)
+{
+    return answered(a.refusal) && limits_are(b, a.lower, a.upper);
 }
 
 static bool limits_refused(jlw_limits limits, uint64_t number, uint64_t place)
@@ -206,8 +214,8 @@ static void test_oxygen(void)
 
 static void test_limits(void)
 {
-    CHECK(limits_are(jlw_fuel_limits(TEXT("CH4")), 454, 2732));
     CHECK(limits_are(jlw_fuel_limits_at(TEXT("CH4"), FIT_TEMPERATURE), 454, 2732));
+    CHECK(same_limits(jlw_fuel_limits(TEXT("CH4")), jlw_fuel_limits_at(TEXT("CH4"), USUAL_TEMPERATURE)));
     CHECK(limits_are(jlw_fuel_limits_at(TEXT("C6H6"), FIT_TEMPERATURE), 143, 821));
     CHECK(limits_are(jlw_fuel_limits_at(TEXT("C7H8"), FIT_TEMPERATURE), 121, 743));
     CHECK(limits_refused(jlw_fuel_limits(TEXT("CO2")), 4, 0));
@@ -248,7 +256,8 @@ static void test_blends(void)
     jlw_blended both = join(propane.blend, ethane.blend);
     CHECK(answered(both.refusal) && both.blend.total == 1000000);
     CHECK(same_blend(both.blend, add(propane.blend, "C2H6", 700000).blend));
-    CHECK(limits_are(jlw_blend_limits(both.blend.total, both.blend.lower, both.blend.upper), 257, 1496));
+    CHECK(same_limits(jlw_blend_limits(both.blend.total, both.blend.lower, both.blend.upper),
+                      jlw_blend_limits_at(both.blend.total, both.blend.lower, both.blend.upper, USUAL_TEMPERATURE)));
     CHECK(limits_are(jlw_blend_limits_at(both.blend.total, both.blend.lower, both.blend.upper, FIT_TEMPERATURE), 257, 1496));
     CHECK(limits_refused(jlw_blend_limits_at(both.blend.total, both.blend.lower, both.blend.upper, 20001), 10, 0));
 

@@ -34,7 +34,8 @@ unit upper = 2000
 unfoldable pub held : Side → Blend → Fraction
 held s b = sumOf s b over unit s
 
--- aβ + b in that unit, of β in quarters: 8.684 β + 4.679; 1.550 β + 0.560 where β ≤ 7.5 and 0.768 β + 6.554 where not
+-- aβ + b in that unit, of β in quarters: 8.684 β + 4.679, with 8684 / 4 = 2171; 1.550 β + 0.560 where β ≤ 7.5 and 0.768 β + 6.554 where not, with
+-- 2 · 1550 / 4 = 775 and 2 · 768 / 4 = 384
 unfoldable pub weight : Side → ℕ → ℕ
 weight lower q = 2171 * q + 4679
 weight upper q = cond (leb q 30) (775 * q + 1120) (384 * q + 13108)

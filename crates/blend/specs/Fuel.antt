@@ -1,4 +1,5 @@
 -- A fuel as it is given, by counts or by a formula text; whether it is admitted; its molar mass (document 01, "Oxygen and gas limits").
+use mathlib.Core.Path.{_≡_}
 use mathlib.Core.List.{List, [], _∷_}
 use Prim.Native.Nat.{ℕ, _+_, _*_}
 use lib.IntN.{natAbs}
@@ -32,6 +33,10 @@ quarters a = natAbs (beta a)
 unfoldable pub molarMass : Atoms → Fraction
 molarMass a = (120 * count a Carbon + 10 * count a Hydrogen + 160 * count a Oxygen + 140 * count a Nitrogen + 355 * count a Chlorine) over 10
 
--- the same by element, C H O N S P F Cl Br Si, in halves; no element is admitted that has none here
+-- the same by element, C H O N S P F Cl Br Si, in halves; an element without a mass here is not admitted
 abbrev pub masses : List ℕ
 masses = 24 ∷ 2 ∷ 32 ∷ 28 ∷ 0 ∷ 0 ∷ 0 ∷ 71 ∷ 0 ∷ 0 ∷ []
+
+-- n halves are the fraction f
+abbrev pub InHalves : Fraction → ℕ → Type 0
+InHalves f n = f .num * 2 ≡ n * f .den

@@ -7,9 +7,9 @@ ghost use Prim.Native.Nat.{_*_, _≤_, _<_};
 ghost use lib.Dec.{leb};
 ghost use Rattle.answer.specs.Outcome.{refused, answered, refusal, unless};
 ghost use Rattle.rounding.specs.Round.{roundDiv};
-ghost use Rattle.elements.specs.Elements.{weightedSum};
+ghost use Rattle.elements.specs.Elements.{each, firstAbove, weightedSum};
 ghost use Rattle.blend.specs.Limit.{lower, upper};
-ghost use Rattle.blend.specs.Fuel.{counts, text as fuel-text, admitting, masses};
+ghost use Rattle.blend.specs.Fuel.{counts, text as fuel-text, admitting, molarMass, masses, InHalves};
 ghost use Rattle.blend.specs.Blend.{emptyBlend, weight, within, withFuel, together, taking, adding, joining, limits as asked-limits, asking, limitsAt, shownBlend, shownLimits};
 ghost use Rattle.blend.specs.Calls.{Call};
 ghost use Rattle.blend.specs.Claims.{Claims};
@@ -53,12 +53,13 @@ pub const FIT_TEMPERATURE: i64 = 2500;
 // 25 °C: the temperature that is meant where none is named.
 pub const USUAL_TEMPERATURE: i64 = 2500;
 
-// The molar masses of C H O N S P F Cl Br Si in halves of g/mol; no element is admitted that has none here.
+// The molar masses of C H O N S P F Cl Br Si in halves of g/mol; an element without a mass here is not admitted.
 const MASSES: [u8; 10] = [24, 2, 32, 28, 0, 0, 0, 71, 0, 0];
 
 // The molar mass of a fuel in halves of g/mol. A count above 200 is taken as 200, and an element that is not admitted weighs nothing.
 pub fn molar_mass(fuel: Atoms) -> u64
     ensures { λ r. ⌜ r ≡ weightedSum masses fuel ⌝ }
+    ensures as_printed { λ r. ⌜ (firstAbove (each 200) fuel ≡ none → InHalves (molarMass fuel) r) ⌝ }
 {
     weighted_sum(MASSES, fuel)
 }

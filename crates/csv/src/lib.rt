@@ -7,7 +7,8 @@ ghost use Rattle.csv.specs.Lines.{crlf, lineAt, fieldAt, plain};
 ghost use Rattle.csv.specs.Sheet.{headed, formed};
 use text::byte_at;
 
-// A line of a text or a field of a line: where it ends, and where the next one begins. Both are at most the text's length, which stands for no next one.
+// A line of a text or a field of a line: where it ends, and where the next one begins; both are at most the text's length. A field that ends there is the
+// last one, and a line is where the next would begin there.
 pub struct Span {
     pub end: usize,
     pub next: usize,

@@ -1,11 +1,10 @@
 -- Conditions: that a hotter and higher point meets what a colder and lower one does, and what a condition is within its bounds.
 use mathlib.Core.Path.{_≡_}
 use mathlib.Core.Bool.{Bool, true, false, cond}
-use Prim.Native.Nat.{ℕ, _≤_}
+use Prim.Native.Nat.{ℕ, _+_, _*_, _≤_}
 use native.Mathlib.Nat.{le-trans, le-refl, mul-le-mul, mul-le-mul-left, add-le-add}
-use borrow.Author.Tests.{le-leb, leb-true}
-use lib.Dec.{leb}
-use Rattle.answer.proofs.Tests.{both}
+use native.Mathlib.Omega.{arith}
+use borrow.Author.Tests.{le-leb, leb-true, lt-ltb, ltb-true}
 use Rattle.curve.specs.declared.Condition.{Condition}
 use Rattle.curve.specs.Smallest.{Test}
 use Rattle.curve.specs.Condition.{holds, bounded, testOf, metWithin}
@@ -20,9 +19,9 @@ module _ (c : Condition) where
       go true t u p q h l e = le-leb _ _ (le-trans (leb-true _ _ e) (mul-le-mul (add-le-add (mul-le-mul-left (c .slope) h) (le-refl (c .base))) l))
       go false t u p q h l e = e
 
-  pub within-bounds : bounded c ≡ true → (c .slope ≤ 76000000) × (c .base ≤ 100)
+  pub within-bounds : bounded c ≡ true → c .slope * 87300 + c .base ≤ 73786976294838
   unfolding bounded
-  within-bounds e = let h = both (leb (c .slope) 76000000) (leb (c .base) 100) e in (leb-true _ _ (h .0), leb-true _ _ (h .1))
+  within-bounds e = omega (arith, ltb-true ((c .slope * 87300 + c .base) * 250000) 18446744073709551616 e)
 
   -- up to 600.00 °C and 250,000 Pa
   pub met-within : (t p : ℕ) → t ≤ 87300 → p ≤ 250000 → metWithin c t p ≡ testOf c t p
@@ -30,6 +29,6 @@ module _ (c : Condition) where
   met-within t p h l = rw (le-leb _ _ h, le-leb _ _ l)
 
   -- a small enough condition is the test that it agrees with
-  pub test-is : (test : Test) → c .slope ≤ 76000000 → c .base ≤ 100 → ((t p : ℕ) → holds c t p ≡ test t p) → testOf c ≡ test
+  pub test-is : (test : Test) → c .slope * 87300 + c .base ≤ 73786976294838 → ((t p : ℕ) → holds c t p ≡ test t p) → testOf c ≡ test
   unfolding testOf bounded
-  test-is test h l same = rw (le-leb _ _ h, le-leb _ _ l) (λ i. λ t p. same t p i)
+  test-is test h same = rw (lt-ltb ((c .slope * 87300 + c .base) * 250000) 18446744073709551616 (omega arith)) (λ i. λ t p. same t p i)

@@ -1,18 +1,18 @@
--- A condition on a temperature and a pressure as whole numbers: level ≤ (slope · t + base) · p, t counted from −273 °C.
+-- A condition on a temperature and a pressure as whole numbers: level ≤ (slope · t + base) · p, t in hundredths of a degree above −273 °C.
 use mathlib.Core.Bool.{Bool, false, _&&_, cond}
 use Prim.Native.Nat.{_+_, _*_}
-use lib.Dec.{leb}
+use lib.Dec.{leb, ltb}
 use Rattle.curve.specs.declared.Condition.{Condition}
 use Rattle.curve.specs.Smallest.{Test}
 
 unfoldable pub holds : Condition → Test
 holds c t p = leb (c .level) ((c .slope * t + c .base) * p)
 
--- small enough that no product exceeds 64 bits, up to 600.00 °C and 250,000 Pa
+-- up to 600.00 °C, 873.00 above −273 °C, and 250,000 Pa the product is below 2 ^ 64
 unfoldable pub bounded : Condition → Bool
-bounded c = leb (c .slope) 76000000 && leb (c .base) 100
+bounded c = ltb ((c .slope * 87300 + c .base) * 250000) 18446744073709551616
 
--- the test that a condition is; a larger one is never true, which the papers leave free
+-- the test that a condition is; one that is not bounded so is never true, which the papers leave free
 unfoldable pub testOf : Condition → Test
 testOf c = cond (bounded c) (holds c) (λ t p. false)
 

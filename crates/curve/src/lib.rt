@@ -204,17 +204,17 @@ pub fn pressure_at(temperatures: &[i64], pressures: &[u64], temperature: i64) ->
     answered_figure(pressure_on(segment_of(temperatures, pressures, t), t))
 }
 
-// Whether no product of the condition exceeds 64 bits.
+// Whether (slope · 87300 + base) · 250000 is below 2 ^ 64.
 fn is_bounded(c: Condition) -> bool
     ensures { λ r. ⌜ r ≡ bounded c ⌝ }
 {
-    if 76000000 < c.slope {
+    if 845211641 < c.slope {
         return false;
     }
-    c.base <= 100
+    c.base <= 73786976294838 - 87300 * c.slope
 }
 
-// Whether the condition holds at t and p; not out of its bounds, beyond 600.00 °C or 250,000 Pa.
+// Whether the condition holds at t and p; it does not where it is not bounded, beyond 600.00 °C or beyond 250,000 Pa.
 pub fn is_met(c: Condition, t: u64, p: u64) -> bool
     ensures { λ r. ⌜ r ≡ metWithin c t p ⌝ }
 {
@@ -282,7 +282,7 @@ fn search(temperatures: &[i64], pressures: &[u64], c: Condition) -> Found
     found
 }
 
-// The smallest hundredth of a degree at which the condition holds along a curve. Refusals 11, 12, 13.
+// The smallest hundredth of a degree at which the condition holds along a curve; one that is not bounded holds nowhere. Refusals 11, 12, 13.
 pub fn smallest_hundredth(c: Condition, temperatures: &[i64], pressures: &[u64]) -> Temperature
     ensures { λ r. ⌜ r ≡ shownTemperature (onCurve (testOf c) (curve (now (temperatures .entry)) (now (pressures .entry)))) ⌝ }
     ensures sound { λ _. ⌜ Sound (curve (now (temperatures .entry)) (now (pressures .entry))) ⌝ }

@@ -13,7 +13,7 @@ use Rattle.answer.specs.Lowest.{lowest}
 use Rattle.bonds.specs.declared.Bonds.{Bonds}
 use Rattle.flash.specs.declared.Linear.{Linear}
 use Rattle.flash.specs.Tables.{coefficients, methods, classes, nowhere}
-use Rattle.flash.specs.Points.{line, lineTerms, bondTerm, missing, noCoefficientAt, terms, sumFrom}
+use Rattle.flash.specs.Points.{row, lineTerms, bondTerm, missing, noCoefficientAt, terms, sumFrom}
 use Rattle.flash.specs.Internal.{KnownMethod, SmallLine, SmallColumn, column, blankAt, termsFrom}
 
 -- a test that passes at each entry passes wherever a table is entered, and past its end where it passes the default
@@ -36,13 +36,13 @@ of-small l t =
     let h = and-yes (leb (natAbs (l .constant)) 100000) (leb (natAbs (l .slope)) 1000) t in
     record { constant = leb→le _ _ (h .0); slope = leb→le _ _ (h .1) }
 
-pub method-small : (m : ℕ) → SmallLine (line methods m)
+pub method-small : (m : ℕ) → SmallLine (row methods m)
 unfolding methods
-method-small m = of-small (line methods m) (at small-line nowhere tt methods tt (m - 1))
+method-small m = of-small (row methods m) (at small-line nowhere tt methods tt (m - 1))
 
-pub class-small : (k : ℕ) → SmallLine (line classes k)
+pub class-small : (k : ℕ) → SmallLine (row classes k)
 unfolding classes
-class-small k = of-small (line classes k) (at small-line nowhere tt classes tt (k - 1))
+class-small k = of-small (row classes k) (at small-line nowhere tt classes tt (k - 1))
 
 -- COLUMNS
 by-method : (P : ℕ → Type 0) → P 1 → P 2 → P 3 → (m : ℕ) → KnownMethod m → P m
@@ -71,7 +71,7 @@ pub sum-line : (l : Linear) (t : ℤ) → sumFrom (pos 0) (lineTerms l t) ≡ (p
 unfolding sumFrom lineTerms
 sum-line l t = rw (+ℤ-idl (pos 100 *ℤ l .constant))
 
-pub sum-terms : (m : ℕ) (b : Bonds) (t s : ℤ) (xs : List ℤ) → s ≡ sumFrom (pos 0) (lineTerms (line methods m) t) → xs ≡ column m
+pub sum-terms : (m : ℕ) (b : Bonds) (t s : ℤ) (xs : List ℤ) → s ≡ sumFrom (pos 0) (lineTerms (row methods m) t) → xs ≡ column m
     → sumFrom s (termsFrom xs b 0) ≡ sumFrom (pos 0) (terms m b t)
 unfolding sumFrom lineTerms terms termsFrom bondTerm coefficients
 sum-terms m b t s xs e q = rw (e, q)

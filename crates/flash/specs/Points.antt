@@ -17,9 +17,9 @@ use Rattle.bonds.specs.Kinds.{bondsAt, aboveAt, hydrogenUnbalanced}
 use Rattle.flash.specs.declared.Linear.{Linear}
 use Rattle.flash.specs.Tables.{coefficients, methods, classes, nowhere}
 
--- line k of a table, from 1
-abbrev pub line : List Linear → ℕ → Linear
-line table k = getD table (k - 1) nowhere
+-- row k of a table, from 1
+abbrev pub row : List Linear → ℕ → Linear
+row table k = getD table (k - 1) nowhere
 
 -- the coefficient of bond kind j for a method, in thousandths
 abbrev pub coefficient : ℕ → ℕ → Option ℤ
@@ -52,10 +52,10 @@ from j (suc n) = j ∷ from (suc j) n
 
 -- the terms of formulas (33) and (34), and their sum
 unfoldable pub terms : ℕ → Bonds → ℤ → List ℤ
-terms m b t = lineTerms (line methods m) t ++ map (bondTerm m b) (from 1 22)
+terms m b t = lineTerms (row methods m) t ++ map (bondTerm m b) (from 1 22)
 
 unfoldable pub classTerms : ℕ → ℤ → List ℤ
-classTerms k t = lineTerms (line classes k) t
+classTerms k t = lineTerms (row classes k) t
 
 unfoldable pub sumFrom : ℤ → List ℤ → ℤ
 sumFrom s [] = s

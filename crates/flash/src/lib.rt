@@ -6,7 +6,7 @@ ghost use lib.IntN.{pos, natAbs, _*ℤ_};
 ghost use Rattle.answer.specs.Lowest.{lowest};
 ghost use Rattle.answer.specs.Outcome.{shownTemperature};
 ghost use Rattle.flash.specs.Tables.{linearOf, methods, classes};
-ghost use Rattle.flash.specs.Points.{line, boilingOutside, lineTerms, sumFrom, byBonds, byClass};
+ghost use Rattle.flash.specs.Points.{row, boilingOutside, lineTerms, sumFrom, byBonds, byClass};
 ghost use Rattle.flash.specs.Internal.{KnownMethod, KnownClass, SmallLine, SmallColumn, FewBonds, column, blank, blankAt, termsFrom, shownSum};
 use answer::Temperature;
 use answer::answered_temperature;
@@ -111,7 +111,7 @@ fn line_of(constant: i64, slope: i64) -> Linear
 // A method's line.
 fn method_line(method: u64) -> Linear
     requires { ⌜ KnownMethod method ⌝ }
-    ensures { λ r. ⌜ r ≡ line methods method ⌝ }
+    ensures { λ r. ⌜ r ≡ row methods method ⌝ }
 {
     match method {
         1 => line_of(-73140, 659), // closed cup
@@ -123,7 +123,7 @@ fn method_line(method: u64) -> Linear
 // A class's line.
 fn class_line(class: u64) -> Linear
     requires { ⌜ KnownClass class ⌝ }
-    ensures { λ r. ⌜ r ≡ line classes class ⌝ }
+    ensures { λ r. ⌜ r ≡ row classes class ⌝ }
 {
     match class {
         1 => line_of(-73220, 693), // alkanes

@@ -17,7 +17,7 @@ use Rattle.elements.specs.declared.Element.the-variants.{Carbon, Hydrogen, Oxyg
 use Rattle.elements.specs.Elements.{symbol, one}
 use Rattle.elements.proofs.Elements.{Letters, one as one-letter, two as two-letters, letters}
 use Rattle.formula.specs.Grammar.{Count, unwritten, written, digits, Formula, last, next, Item, element, group, text, itemText, totals, itemTotals}
-use Rattle.formula.specs.Reader.{whole, symbolOf, symbolAt, counting, symbolic, ends, plusRead, then, items, closing, readItem, readItems}
+use Rattle.formula.specs.Reader.{named, symbolOf, symbolAt, counting, symbolic, ends, plusRead, then, items, closing, readItem, readItems}
 use Rattle.formula.proofs.Counts.{Behind, behind, counting-is}
 use Rattle.formula.proofs.Symbols.{symbol-long}
 use Rattle.formula.proofs.Unfold.{item-other, item-open, then-ends, then-goes}
@@ -59,7 +59,7 @@ item-long (group f n) = omega arith
 
 -- R MAY STAND BEHIND AN ITEM: the reader reads the item and goes no further
 abbrev pub Follows : {d : ℕ} → Item d → List ℕ → Type 0
-Follows (element e n) r = (symbolAt (symbol e ++ (digits n ++ r)) ≡ whole e) × Behind n (at r 0)
+Follows (element e n) r = (symbolAt (symbol e ++ (digits n ++ r)) ≡ named e) × Behind n (at r 0)
 Follows (group f n) r = Behind n (at r 0)
 
 -- a count begins with no letter
@@ -72,7 +72,7 @@ count-low (written n p q) r l = go (decLt n 10) (decLt n 100)
     go (no h) (yes k) = rw (decimal-two n (omega arith) k) (omega arith)
     go (no h) (no k) = rw (decimal-three n (omega arith) (omega arith)) (omega arith)
 
-alone : (e : Element) (t : List ℕ) → at t 0 < 97 → symbolAt (symbol e ++ t) ≡ whole e
+alone : (e : Element) (t : List ℕ) → at t 0 < 97 → symbolAt (symbol e ++ t) ≡ named e
 unfolding symbolOf
 alone Carbon t l = rw (ne-eqb (at t 0) 108 (λ q. omega arith))
 alone Hydrogen t l = refl

@@ -15,7 +15,7 @@ use Rattle.elements.proofs.Elements.{letters, number-from}
 use Rattle.formula.specs.declared.Multiple.{Multiple}
 use Rattle.formula.specs.declared.Spelling.{Spelling}
 use Rattle.formula.specs.Grammar.{digits}
-use Rattle.formula.specs.Reader.{Symbol, whole, half, absent, symbolOf, symbolAt, multipleOf, multipleAt, counting, symbolic, readElement, ends}
+use Rattle.formula.specs.Reader.{Symbol, named, half, absent, symbolOf, symbolAt, multipleOf, multipleAt, counting, symbolic, readElement, ends}
 use Rattle.formula.specs.Internal.{spelling, Adds, Says, advanced}
 use Rattle.formula.proofs.Counts.{counts, count-read}
 use Rattle.formula.proofs.Symbols.{Headed, headed, first-letter, symbol-long}
@@ -30,20 +30,20 @@ symbol-within : (t : List ℕ) → spelling (symbolAt t) .size ≤ length t
 symbol-within t = go t (symbolAt t) (headed t)
   where
     go : (t : List ℕ) (x : Symbol) → Headed t x → spelling x .size ≤ length t
-    go t (whole e) s = omega (arith, ap length s, length-append (symbol e) (drop (length (symbol e)) t))
+    go t (named e) s = omega (arith, ap length s, length-append (symbol e) (drop (length (symbol e)) t))
     go [] half (e, x, p) = absurd (omega (arith, first-letter (symbol e) (letters e) .0, ap (λ (w : List ℕ). at w 0) p))
     go (b ∷ t) half s = omega arith
     go t absent s = omega arith
 
 -- what is read by a symbol's number and size
 unspelled : (t : List ℕ) (x : Symbol) → spelling x .number ≡ 0 → symbolic t x ≡ stuck (drop (spelling x .size) t)
-unspelled t (whole e) z = absurd (omega (arith, number-from e))
+unspelled t (named e) z = absurd (omega (arith, number-from e))
 unspelled t half z = refl
 unspelled t absent z = refl
 
 spelled : (t : List ℕ) (x : Symbol) → (spelling x .number ≡ 0 → ⊥)
     → (e : Element) × (spelling x .number ≡ number e) × (0 < spelling x .size) × (symbolic t x ≡ counting (one e) (drop (spelling x .size) t))
-spelled t (whole e) z = (e, refl, symbol-long e, refl)
+spelled t (named e) z = (e, refl, symbol-long e, refl)
 spelled t half z = absurd (z refl)
 spelled t absent z = absurd (z refl)
 

@@ -15,7 +15,7 @@ use Rattle.elements.specs.declared.Element.the-variants.{Carbon}
 use Rattle.elements.specs.Elements.{symbol}
 use Rattle.elements.proofs.Elements.{letters}
 use Rattle.formula.specs.Grammar.{unwritten, digits, Formula, last, next, Item, element, group, text, itemText, itemTotals}
-use Rattle.formula.specs.Reader.{Symbol, whole, half, absent, symbolOf, symbolAt, symbolic, readElement, ends, plusRead, then, items, closing, readItem, readItems}
+use Rattle.formula.specs.Reader.{Symbol, named, half, absent, symbolOf, symbolAt, symbolic, readElement, ends, plusRead, then, items, closing, readItem, readItems}
 use Rattle.formula.proofs.Unfold.{item-other, item-open, then-goes}
 use Rattle.formula.proofs.Symbols.{Headed, headed, first-letter, symbol-same, absent-any}
 use Rattle.formula.proofs.Counts.{Behind, counts}
@@ -58,7 +58,7 @@ element-at : (d : ℕ) (t : List ℕ) → ((u : List ℕ) → at t 0 ≡ at u 0 
 element-at d t reads = go t reads (symbolAt t) refl (headed t)
   where
     go : (t : List ℕ) → ((u : List ℕ) → at t 0 ≡ at u 0 → readItem d u ≡ readElement u) → (x : Symbol) → symbolAt t ≡ x → Headed t x → ItemAt d t
-    go t reads (whole e) q s =
+    go t reads (named e) q s =
         let k = counts (drop (length (symbol e)) t) in
         let split = s ∙ ap (λ (w : List ℕ). symbol e ++ w) (k .split) in
         item (element e (k .count)) (k .rest) (split ∙ sym (append-assoc (symbol e) (digits (k .count)) (k .rest))) (ap symbolAt (sym split) ∙ q, k .ends)

@@ -15,7 +15,7 @@ use Rattle.text.proofs.Readers.{same-eq}
 use Rattle.elements.specs.declared.Element.{Element}
 use Rattle.elements.specs.Elements.{elements, symbol}
 use Rattle.elements.proofs.Elements.{Letters, one, two, letters}
-use Rattle.formula.specs.Reader.{find, withSymbol, withLetter, Symbol, whole, half, absent, symbolBy, symbolOf, symbolAt}
+use Rattle.formula.specs.Reader.{find, withSymbol, withLetter, Symbol, named, half, absent, symbolBy, symbolOf, symbolAt}
 
 -- THE SEARCH: what it finds passes the test; where it finds none, it finds none by a stronger test
 find-passes : (test : Element → Bool) (es : List Element) (e : Element) → find test es ≡ some e → test e ≡ true
@@ -63,7 +63,7 @@ from-first w (two a b l h k) = refl
 
 -- A TEXT by the symbol at its head: that of an element, half of one, or none
 abbrev pub Headed : List ℕ → Symbol → Type 0
-Headed t (whole e) = t ≡ symbol e ++ drop (length (symbol e)) t
+Headed t (named e) = t ≡ symbol e ++ drop (length (symbol e)) t
 Headed t half = (e : Element) × (x : List ℕ) × (symbol e ≡ at t 0 ∷ x)
 Headed t absent = Unit {0}
 

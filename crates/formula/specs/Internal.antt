@@ -10,7 +10,7 @@ use Rattle.elements.specs.declared.Element.{Element}
 use Rattle.elements.specs.Elements.{Totals, number, symbol, plus}
 use Rattle.formula.specs.declared.Spelling.{Spelling}
 use Rattle.formula.specs.declared.Step.{Step}
-use Rattle.formula.specs.Reader.{Symbol, whole, half, absent}
+use Rattle.formula.specs.Reader.{Symbol, named, half, absent}
 
 -- the number of an element that was found, 0 where none was
 abbrev pub numberOf : Option Element → ℕ
@@ -19,7 +19,7 @@ numberOf none = 0
 
 -- a symbol by its element's number, and its size; 0 where there is none, and the size of what begins one
 abbrev pub spelling : Symbol → Spelling
-spelling (whole e) = record { number = number e; size = length (symbol e) }
+spelling (named e) = record { number = number e; size = length (symbol e) }
 spelling half = record { number = 0; size = 1 }
 spelling absent = record { number = 0; size = 0 }
 

@@ -26,14 +26,14 @@ withLetter b = find (λ e. eqb b (at (symbol e) 0)) elements
 
 -- what two bytes begin: the symbol of an element, half a symbol, or nothing
 pub data Symbol : Type 0 where
-  whole : Element → Symbol
+  named : Element → Symbol
   half : Symbol
   absent : Symbol
 
 -- the element whose symbol is both bytes, else the one whose symbol is the first; half a symbol where one begins so
 abbrev pub symbolBy : Option Element → Option Element → Option Element → Symbol
-symbolBy (some e) first begun = whole e
-symbolBy none (some e) begun = whole e
+symbolBy (some e) first begun = named e
+symbolBy none (some e) begun = named e
 symbolBy none none (some e) = half
 symbolBy none none none = absent
 
@@ -66,7 +66,7 @@ counting m t = ok (times m (multipleAt t .value)) (drop (multipleAt t .size) t)
 
 -- an element with a count
 abbrev pub symbolic : List ℕ → Symbol → Result Totals
-symbolic t (whole e) = counting (one e) (drop (length (symbol e)) t)
+symbolic t (named e) = counting (one e) (drop (length (symbol e)) t)
 symbolic t half = stuck (drop 1 t)
 symbolic t absent = stuck t
 

@@ -28,7 +28,7 @@ use Rattle.curve.specs.Curve.{Curve, onCurve}
 use Rattle.curve.specs.Condition.{holds, testOf}
 use Rattle.curve.proofs.Conditions.{test-is}
 use Rattle.ignition.specs.declared.Asked.{Asked}
-use Rattle.ignition.specs.Questions.{partOfPressure, reaches, threshold, product, ignites, purposeOf, limitTest, flashTest}
+use Rattle.ignition.specs.Questions.{partOfPressure, reaches, withLimit, limitTest, threshold, product, ignites, purposeOf, withOxygen, flashTest}
 use Rattle.ignition.specs.Conditions.{byPressure, byProduct, limitCondition, flashCondition, shownCondition, testedBy}
 use Rattle.ignition.specs.Internal.{putToCurve}
 
@@ -46,11 +46,11 @@ at-most-same a b f g h k = go (decLt b a) (decLt (g .num * f .den) (f .num * g .
 reaches-is : (limit : ℕ) → testOf (byPressure limit) ≡ reaches limit
 unfolding holds reaches partOfPressure _over_ whole _⊠_
 reaches-is limit =
-    test-is (byPressure limit) (reaches limit) (omega arith) (omega arith)
+    test-is (byPressure limit) (reaches limit) (omega arith)
     (λ t p. at-most-same (1013 * limit) ((0 * t + 100) * p) (partOfPressure limit) (whole p) (λ h. omega arith) (λ h. omega arith))
 
 pub limit-tested : (a : Atoms) → testedBy (limitCondition a) ≡ limitTest a
-unfolding limitCondition limitTest
+unfolding withLimit
 limit-tested a = go (fuelLimits (some fitTemperature) a)
   where
     go : (o : Outcome LimitPair) → testedBy (andThen o (λ l. answered (byPressure (l .lower)))) ≡ andThen o (λ l. answered (reaches (l .lower)))
@@ -58,18 +58,18 @@ limit-tested a = go (fuelLimits (some fitTemperature) a)
     go (answered l) = ap answered (reaches-is (l .lower))
 
 pub limit-numbered : (a : Atoms) → Numbered (limitCondition a)
-unfolding limitCondition
+unfolding withLimit
 limit-numbered a = andThen-numbered (fuelLimits (some fitTemperature) a) _ (fuel-numbered _ a) (λ l. tt)
 
 -- FORMULA (35): the largest slope is 20,000 · 3,800
 ignites-is : (m diffusion q : ℕ) → diffusion ≤ 20000 → q ≤ 3800 → testOf (byProduct (threshold m) diffusion q) ≡ ignites m diffusion q
 unfolding holds ignites product _over_ whole _⊠_
 ignites-is m diffusion q h l =
-    test-is (byProduct (threshold m) diffusion q) (ignites m diffusion q) (omega (arith, mul-le-mul h l)) (omega arith)
+    test-is (byProduct (threshold m) diffusion q) (ignites m diffusion q) (omega (arith, mul-le-mul h l))
     (λ t p. at-most-same (threshold m * 4000000000) ((diffusion * q * t + 0) * p) (whole (threshold m)) (product diffusion q t p) (λ h. omega arith) (λ h. omega arith))
 
 pub flash-tested : (m : ℕ) (a : Atoms) (diffusion : ℕ) → testedBy (flashCondition m a diffusion) ≡ flashTest m a diffusion
-unfolding flashCondition flashTest
+unfolding withOxygen
 flash-tested m a diffusion = go (outside (pos 1) (pos 3) (pos m)) (admission (purposeOf m) a) refl (outside (pos 1) (pos 20000) (pos diffusion)) refl
   where
     go : (x : Bool) (o : Outcome ℕ) → admission (purposeOf m) a ≡ o → (y : Bool) → outside (pos 1) (pos 20000) (pos diffusion) ≡ y
@@ -81,7 +81,7 @@ flash-tested m a diffusion = go (outside (pos 1) (pos 3) (pos m)) (admission (pu
     go false (answered q) e false f = ap answered (ignites-is m diffusion q (inside 1 20000 diffusion f .1) (admitted-facts (purposeOf m) a q e .most))
 
 pub flash-numbered : (m : ℕ) (a : Atoms) (diffusion : ℕ) → Numbered (flashCondition m a diffusion)
-unfolding flashCondition
+unfolding withOxygen
 flash-numbered m a diffusion =
     refuse-numbered unknownMethod 0 (outside (pos 1) (pos 3) (pos m)) _ (omega arith)
     (andThen-numbered (admission (purposeOf m) a) _ (admission-numbered (purposeOf m) a)

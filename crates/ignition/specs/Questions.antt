@@ -25,8 +25,12 @@ partOfPressure limit = (limit over 100) ⊠ (1 over 100) ⊠ whole 101300
 unfoldable pub reaches : ℕ → Test
 reaches limit t p = atMost (partOfPressure limit) (whole p)
 
-unfoldable pub limitTest : Atoms → Outcome Test
-limitTest a = andThen (fuelLimits (some fitTemperature) a) (λ l. answered (reaches (l .lower)))
+-- the fuel's refusals, then what is made of φ
+unfoldable pub withLimit : {A : Type 0} → Atoms → (ℕ → A) → Outcome A
+withLimit a made = andThen (fuelLimits (some fitTemperature) a) (λ l. answered (made (l .lower)))
+
+abbrev pub limitTest : Atoms → Outcome Test
+limitTest a = withLimit a reaches
 
 unfoldable pub lowerTemperatureLimit : Atoms → Curve → Outcome ℤ
 lowerTemperatureLimit a c = andThen (limitTest a) (λ test. onCurve test c)
@@ -45,12 +49,16 @@ ignites m diffusion q t p = atMost (whole (threshold m)) (product diffusion q t 
 abbrev pub purposeOf : ℕ → Purpose
 purposeOf m = cond (eqb m 3) FirePoint OxygenCoefficient
 
-unfoldable pub flashTest : ℕ → Atoms → ℕ → Outcome Test
-flashTest m a diffusion =
+-- refusals 16, 2, 3, 4 and 18, then what is made of β
+unfoldable pub withOxygen : {A : Type 0} → ℕ → Atoms → ℕ → (ℕ → A) → Outcome A
+withOxygen m a diffusion made =
     refuse unknownMethod 0 (outside (pos 1) (pos 3) (pos m))
     (andThen (admission (purposeOf m) a) (λ q.
     refuse diffusionOutside 0 (outside (pos 1) (pos 20000) (pos diffusion))
-    (answered (ignites m diffusion q))))
+    (answered (made q))))
+
+abbrev pub flashTest : ℕ → Atoms → ℕ → Outcome Test
+flashTest m a diffusion = withOxygen m a diffusion (ignites m diffusion)
 
 unfoldable pub flashByCurve : ℕ → Atoms → ℕ → Curve → Outcome ℤ
 flashByCurve m a diffusion c = andThen (flashTest m a diffusion) (λ test. onCurve test c)

@@ -1,5 +1,6 @@
 //! The book of demand 3: a page of entries for each blend, fed with the calls alone; limits by exact fractions as the paper prints them.
 
+use crate::blend::USUAL_TEMPERATURE;
 use crate::formula::{read, Atoms};
 use crate::limits::{admit, quarters, Pair, LIMITS};
 use crate::refusal::{refuse_if, Answer};
@@ -120,7 +121,7 @@ impl Book {
     }
 
     pub fn limits(&self, page: usize) -> Answer<Pair> {
-        self.limits_at(page, 2_500)
+        self.limits_at(page, USUAL_TEMPERATURE)
     }
 
     /// V / sum(v / limit) over the page's entries.

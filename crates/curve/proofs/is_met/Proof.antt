@@ -2,7 +2,7 @@
 use mathlib.Core.Path.{_≡_, sym, _∙_}
 use mathlib.Core.Bool.{true}
 use Prim.Native.Nat.{_+_, _*_, _≤_}
-use native.Mathlib.Nat.{mul-le-mul}
+use native.Mathlib.Nat.{mul-le-mul, mul-le-mul-left}
 use native.Mathlib.Omega.{arith}
 use borrow.Author.Tests.{le-leb, lt-leb, not-true, not-false}
 use Rattle.curve.specs.Condition.{holds, bounded, testOf, metWithin}
@@ -31,13 +31,12 @@ module _ (c : tie.Else3) where
   pub inside : bounded (s .args .c) ≡ true
   inside = sym (c .before .is-bounded .ensures) ∙ not-false _ (c .if3 .left)
 
-  pub factor : s .args .c .slope * s .args .t + s .args .c .base ≤ 76000000 * 87300 + 100
+  pub factor : s .args .c .slope * s .args .t + s .args .c .base ≤ 73786976294838
   factor =
-      let b = within-bounds (s .args .c) inside in
       let h : s .args .t ≤ 87300 = omega arith in
-      omega (arith, mul-le-mul (b .0) h)
+      omega (arith, within-bounds (s .args .c) inside, mul-le-mul-left (s .args .c .slope) h)
 
-  pub product : (s .args .c .slope * s .args .t + s .args .c .base) * s .args .p ≤ (76000000 * 87300 + 100) * 250000
+  pub product : (s .args .c .slope * s .args .t + s .args .c .base) * s .args .p ≤ 73786976294838 * 250000
   product = let h : s .args .p ≤ 250000 = omega arith in mul-le-mul factor h
 
 returns-4 : tie.Need-returns-4

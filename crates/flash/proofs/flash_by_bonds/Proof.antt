@@ -13,7 +13,7 @@ use Rattle.answer.proofs.Outside.{inside, inside-size}
 use Rattle.bonds.specs.Kinds.{aboveAt, hydrogenUnbalanced}
 use Rattle.bonds.proofs.Places.{none-above}
 use Rattle.flash.specs.Tables.{methods}
-use Rattle.flash.specs.Points.{boilingOutside, line, lineTerms, noCoefficientAt, terms, sumFrom, byBonds}
+use Rattle.flash.specs.Points.{boilingOutside, row, lineTerms, noCoefficientAt, terms, sumFrom, byBonds}
 use Rattle.flash.specs.Internal.{KnownMethod, FewBonds, shownSum}
 use Rattle.flash.proofs.Sizes.{bits, Sized, sized, read}
 use Rattle.flash.proofs.Columns.{method-small, column-small, missing-is, sum-terms}
@@ -66,9 +66,6 @@ returns-3 c =
     let h = c .before .before in
     rw (known (h .before .before .before) .0, few (h .before) .0, sym (h .hydrogen-is-unbalanced .ensures) ∙ c .before .if3 .taken) (c .refused-temperature3 .ensures)
 
-column-of-requires : tie.Need-column-of-requires
-column-of-requires c κs = known (c .before .before .before .before) .1
-
 first-missing-requires : tie.Need-first-missing-requires
 first-missing-requires c κs = rw (c .column-of .ensures) (column-small _ (known (c .before .before .before .before .before) .1))
 
@@ -86,9 +83,6 @@ returns-5 c =
     let e = d .before .before .before in
     rw (known (e .before .before .before .before) .0, few (e .before .before) .0, balanced e, filled d, boiling (c .before .before) ∙ c .before .if5 .taken) (c .refused-temperature5 .ensures)
 
-method-line-requires : tie.Need-method-line-requires
-method-line-requires c κs = known (c .before .before .before .before .before .before .before .before .before) .1
-
 line-sum-requires : tie.Need-line-sum-requires
 line-sum-requires c κs =
     rw (c .method-line .ensures, toZ-ofZ (start (c .before .before .before) .fits .boiling))
@@ -100,7 +94,7 @@ module _ (c : tie.After-line-sum) where
   line-read = read (omega arith) (sized 70000000 (c .line-sum .result) (c .line-sum .ensures .1))
 
   line-is : let s = start (c .before .before .before .before) in
-      bits (c .line-sum .result) ≡ sumFrom (pos 0) (lineTerms (line methods (s .args .method)) (s .args .boiling))
+      bits (c .line-sum .result) ≡ sumFrom (pos 0) (lineTerms (row methods (s .args .method)) (s .args .boiling))
   line-is =
       line-read .is
       ∙ rw (c .before .method-line .ensures, toZ-ofZ (start (c .before .before .before .before) .fits .boiling)) at (c .line-sum .ensures .0)
@@ -139,14 +133,14 @@ flash-by-bonds-spec =
     (λ c κs. search needs)
     (λ c κs. search needs)
     returns-3
-    column-of-requires
+    (λ c κs. known (c .before .before .before .before) .1)
     first-missing-requires
     (λ c κs. search needs)
     returns-4
     (λ c κs. search needs)
     (λ c κs. search needs)
     returns-5
-    method-line-requires
+    (λ c κs. known (c .before .before .before .before .before .before .before .before .before) .1)
     line-sum-requires
     bond-sum-requires
     (λ c κs. search needs)

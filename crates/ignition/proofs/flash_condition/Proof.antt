@@ -12,7 +12,7 @@ use Rattle.answer.proofs.Outside.{inside}
 use Rattle.oxygen.specs.Admission.{admission}
 use Rattle.oxygen.proofs.Admissions.{admission-numbered}
 use Rattle.ignition.specs.Questions.{purposeOf}
-use Rattle.ignition.specs.Conditions.{flashCondition}
+use Rattle.ignition.specs.Questions.{withOxygen}
 use Rattle.ignition.proofs.Tests.{flash-tested}
 use Rattle.ignition.proofs.flash_condition.Statement.{statement}
 use Rattle.ignition.proofs.flash_condition.Tie as tie
@@ -43,23 +43,23 @@ module _ (c : tie.Else3) where
   product = mul-le-mul (inside 1 20000 _ small .1) (a .admit .ensures .1)
 
 returns : tie.Need-returns
-unfolding flashCondition
+unfolding withOxygen
 returns c = (rw (sym (c .before .before .is-outside .ensures) ∙ c .before .if1 .taken) (c .not-asked .ensures), flash-tested _ _ _)
 
 returns-2 : tie.Need-returns-2
-unfolding flashCondition
+unfolding withOxygen
 returns-2 c =
     let b = c .before .before .before .before in
     (rw (known (b .before .before), declined (c .before)) (c .not-asked2 .ensures), flash-tested _ _ _)
 
 returns-3 : tie.Need-returns-3
-unfolding flashCondition
+unfolding withOxygen
 returns-3 c =
     let o = c .before .before in
     (rw (known (o .before .before .before .before .before .before), admitted (o .before), sym (o .is-outside2 .ensures) ∙ c .before .if3 .taken) (c .not-asked3 .ensures), flash-tested _ _ _)
 
 returns-4 : tie.Need-returns-4
-unfolding flashCondition
+unfolding withOxygen
 returns-4 c =
     let e = c .before .before .before in
     let o = e .before in

@@ -7,7 +7,7 @@ use Rattle.blend.specs.Limit.{fitTemperature}
 use Rattle.blend.proofs.Told.{pairOf, limits-refused, limits-answered}
 use Rattle.limits.specs.FuelLimits.{fuelLimits}
 use Rattle.limits.proofs.Alone.{fuel-numbered}
-use Rattle.ignition.specs.Conditions.{limitCondition}
+use Rattle.ignition.specs.Questions.{withLimit}
 use Rattle.ignition.proofs.Tests.{limit-tested}
 use Rattle.ignition.proofs.limit_condition.Statement.{statement}
 use Rattle.ignition.proofs.limit_condition.Tie as tie
@@ -19,11 +19,11 @@ pair : (c : tie.Else1) → let l = c .before .before .before in fuelLimits (some
 pair c = limits-answered _ _ (c .before .before .before .fuel-limits-at .ensures .0) (fuel-numbered _ _) (omega arith)
 
 returns : tie.Need-returns
-unfolding limitCondition
+unfolding withLimit
 returns c = (rw (declined (c .before)) (c .not-asked .ensures), limit-tested _)
 
 returns-2 : tie.Need-returns-2
-unfolding limitCondition
+unfolding withLimit
 returns-2 c = (rw (pair (c .before .before)) (c .asked-for .ensures), limit-tested _)
 
 pub limit-condition-spec : {M : Type 1} → statement M

@@ -36,11 +36,11 @@ module _ (c : tie.After-size) where
   sized = rw (toZ-ofZ (c .before .before .before .before .before .before .fits .temperature)) at (c .size .ensures)
 
   light : c .before .molar-mass .result ≤ 40000
-  light = rw (c .before .molar-mass .ensures) (omega (arith, mass-most _ (known .0)))
+  light = rw (c .before .molar-mass .ensures .0) (omega (arith, mass-most _ (known .0)))
 
   pub rates : (x : ℕ) → rate (c .before .molar-mass .result) (c .size .result) x
       ≡ concentration (c .before .before .before .before .before .before .args .fuel) (natAbs (c .before .before .before .before .before .before .args .temperature)) x
-  rates x = rw (c .before .molar-mass .ensures, sized) (concentration-is _ (known .0) _ x)
+  rates x = rw (c .before .molar-mass .ensures .0, sized) (concentration-is _ (known .0) _ x)
 
 returns : tie.Need-returns
 unfolding massConcentration

@@ -22,7 +22,7 @@ use Rattle.flash.specs.Tables.{coefficients, methods}
 use Rattle.flash.specs.Points.{missing, noCoefficientAt, lineTerms, bondTerm, terms, sumFrom, byBonds}
 use Rattle.curve.specs.Smallest.{smallest, searched}
 use Rattle.curve.specs.Curve.{sizes, outOfRange, rising, badPoint, firstBadPoint, accepting, between, segmentOf, pressureAt, onCurve}
-use Rattle.ignition.specs.Questions.{reaches, limitTest, lowerTemperatureLimit, threshold, ignites, flashTest, flashByCurve}
+use Rattle.ignition.specs.Questions.{partOfPressure, reaches, withLimit, lowerTemperatureLimit, threshold, product, ignites, withOxygen, flashByCurve}
 use Rattle.worked.proofs.worked_examples.Statement.{statement}
 use Rattle.worked.proofs.worked_examples.Tie as tie
 
@@ -32,7 +32,7 @@ unfolding reading readItems readItem symbolOf multipleOf digitFrom firstAbove lo
     molarMass molarVolume concentration massConcentration roundDiv roundDivℤ _over_ whole _⊞_ _⊠_ _⊘_ figure atMost
     aboveAt hydrogenUnbalanced Option·elim coefficients methods missing noCoefficientAt lineTerms bondTerm terms sumFrom byBonds
     smallest searched sizes outOfRange rising badPoint firstBadPoint accepting between segmentOf pressureAt onCurve
-    reaches limitTest lowerTemperatureLimit threshold ignites flashTest flashByCurve
+    partOfPressure reaches withLimit lowerTemperatureLimit threshold product ignites withOxygen flashByCurve
 returns c = (refl, refl)
 
 pub worked-examples-spec : {M : Type 1} → statement M

@@ -6,7 +6,7 @@ use crate::generate::{counts, fuel_of_quarters, Random};
 use crate::library::*;
 use peer::curve;
 use peer::formula::Atoms;
-use peer::limits::{admit, fuel_limits_at as peer_limits_at, OXYGEN};
+use peer::limits::{admit, fuel_limits_at as peer_limits_at, FIT_TEMPERATURE, OXYGEN};
 use peer::scan;
 
 pub fn run(source: &mut Source) -> u64 {
@@ -52,7 +52,7 @@ fn lower_limits(source: &mut Source) -> u64 {
     let mut scans = 0;
     for _ in 0..CASES {
         let fuel = counts(&mut source.random);
-        let lower = peer_limits_at(&fuel, 2_500).map_or(300, |pair| pair.lower);
+        let lower = peer_limits_at(&fuel, FIT_TEMPERATURE).map_or(300, |pair| pair.lower);
         let curve = curve_for(&mut source.random, |_| (lower * 1_013).div_ceil(100));
         let Curve { temperatures, pressures } = &curve;
         let (t, p) = (source.temperatures.hold(temperatures), source.pressures.hold(pressures));
