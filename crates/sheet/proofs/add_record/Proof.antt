@@ -32,11 +32,11 @@ pub add-record-spec : {M : Type 1} → statement M
 add-record-spec =
     tie.close
     (tie.spec
-    (λ c κs. search needs)
+    (λ c κs. tt)
     (λ c. search needs)
     (λ c. search needs)
     (λ c. search needs)
     spelled-requires
     slice-aggregate-add-fuel-text
-    (λ c κs. search needs)
+    (λ c κs. tt)
     returns)

@@ -51,16 +51,16 @@ add-records-spec =
     (tie.spec
     Inv-loop
     μ-loop
-    (λ c κs. search needs)
-    (λ c κs. search needs)
+    (λ c κs. tt)
+    (λ c κs. tt)
     (λ c. adding-starts _ _ (c .before .line-at .ensures) _ (c .empty-blend .ensures .0))
-    (λ c κs. search needs)
+    (λ c κs. tt)
     (λ c. order c .0)
     (λ c. order c .0)
     (λ c. order c .1)
     add-record-requires
     (λ c. omega (arith, order (c .before .before .before .before .before)))
-    (λ c κs. search needs)
+    (λ c κs. tt)
     returns
     (λ c. omega (arith, order (c .before .before .before .before .before .before)))
     (λ c. omega (arith, order (c .before .before .before .before .before .before)))

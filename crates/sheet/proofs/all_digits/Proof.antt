@@ -39,7 +39,7 @@ all-digits-spec =
     μ-loop
     (λ c. refl)
     (λ c. omega arith)
-    (λ c κs. search needs)
+    (λ c κs. tt)
     returns
     (λ c. omega arith)
     (λ c. omega arith)

@@ -49,13 +49,13 @@ first-bad-record-spec =
     (tie.spec
     Inv-loop
     μ-loop
-    (λ c κs. search needs)
+    (λ c κs. tt)
     (λ c. searching-starts goodMixture _ _ (c .line-at .ensures))
-    (λ c κs. search needs)
+    (λ c κs. tt)
     (λ c. order c .0)
     (λ c. order c .0)
     (λ c. order c .1)
-    (λ c κs. search needs)
+    (λ c κs. tt)
     (λ c. omega (arith, order (c .before .before .before)))
     returns
     (λ c. omega (arith, order (c .before .before .before)))

@@ -8,4 +8,4 @@ returns : tie.Need-returns
 returns c = splits (c .before .before .before .args .l .now) _ _ (c .before .field-at .ensures) (c .field-at2 .ensures)
 
 pub split-spec : {M : Type 1} → statement M
-split-spec = tie.close (tie.spec (λ c κs. search needs) (λ c κs. search needs) returns)
+split-spec = tie.close (tie.spec (λ c κs. tt) (λ c κs. tt) returns)

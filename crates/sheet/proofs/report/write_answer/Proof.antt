@@ -15,9 +15,9 @@ pub write-answer-spec : {M : Type 1} → statement M
 write-answer-spec =
     tie.close
     (tie.spec
-    (λ c κs. search needs)
+    (λ c κs. tt)
     (λ c. search needs)
     slice-aggregate-write-whole
-    (λ c κs. search needs)
+    (λ c κs. tt)
     (λ c. search needs)
     returns)
