@@ -83,13 +83,13 @@ measure-spec =
     tie.close
     (tie.spec
     (λ c κs. search needs)
-    (λ c κs. search needs)
+    (λ c κs. tt)
     returns
     (λ c κs. ceiling-is (c .before .before .args .top) (c .before .before .args .method) (good c))
-    (λ c κs. search needs)
+    (λ c κs. tt)
     returns-2
     (λ c κs. scaled (c .before .before))
-    (λ c κs. search needs)
+    (λ c κs. tt)
     returns-3
-    (λ c κs. search needs)
+    (λ c κs. tt)
     returns-4)

@@ -3,7 +3,6 @@ use mathlib.Core.Path.{_≡_, sym, ap, _∙_}
 use Prim.Native.Nat.{ℕ}
 use native.Mathlib.Omega.{arith}
 use lib.Ieee.{ofBits}
-use borrow.Author.Needs.{needs}
 use borrow.Author.Tests.{not-true, not-false}
 use Rattle.answer.specs.declared.Figure.{Figure}
 use Rattle.rounding.specs.Fraction.{whole}
@@ -35,4 +34,4 @@ returns-2 c =
     rw (good (c .before .before) ∙ not-false _ (c .before .if1 .left)) (e, omega (arith, ap value e))
 
 pub overload-spec : {M : Type 1} → statement M
-overload-spec = tie.close (tie.spec is-good-requires (λ c κs. search needs) returns (λ c κs. search needs) returns-2)
+overload-spec = tie.close (tie.spec is-good-requires (λ c κs. tt) returns (λ c κs. tt) returns-2)

@@ -31,7 +31,7 @@ parts-of-spec =
     (λ c. search needs)
     measure-requires-2
     (λ c. search needs)
-    (λ c κs. search needs)
+    (λ c κs. tt)
     (λ c. rw (c .before .before .reading .given .1) (rw hundred-is at (c .measure .ensures)))
     (λ c. rw (c .before .before .reading2 .given .1) (rw million-is at (c .measure2 .ensures)))
     (λ c. rw (c .before .enum-told .given .1) (c .overload .ensures)))

@@ -34,5 +34,5 @@ whole-parts-spec =
     (λ c. omega (arith, known c))
     (λ c. omega (arith, known c))
     (λ c. search needs)
-    (λ c κs. search needs)
+    (λ c κs. tt)
     returns-2)

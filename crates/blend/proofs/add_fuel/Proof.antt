@@ -1,7 +1,6 @@
 -- `add_fuel` meets its contract: out of bounds, or what `take` makes of the fuel.
 use mathlib.Core.Path.{_≡_, sym, _∙_}
 use mathlib.Core.Bool.{true, false}
-use borrow.Author.Needs.{needs}
 use borrow.Author.Tests.{not-true, not-false}
 use Rattle.blend.specs.Blend.{within, adding}
 use Rattle.blend.proofs.Bounds.{within-facts}
@@ -29,8 +28,8 @@ pub add-fuel-spec : {M : Type 1} → statement M
 add-fuel-spec =
     tie.close
     (tie.spec
-    (λ c κs. search needs)
-    (λ c κs. search needs)
+    (λ c κs. tt)
+    (λ c κs. tt)
     returns
     take-requires
     returns-2)

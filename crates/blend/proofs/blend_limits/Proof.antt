@@ -1,11 +1,10 @@
 -- `blend_limits` meets its contract: with none named, the usual temperature is meant.
-use borrow.Author.Needs.{needs}
 use Rattle.blend.specs.Blend.{telling, asking}
 use Rattle.blend.proofs.blend_limits.Statement.{statement}
 use Rattle.blend.proofs.blend_limits.Tie as tie
 
 blend-limits-at-requires : tie.Need-blend-limits-at-requires
-blend-limits-at-requires c κs = search needs
+blend-limits-at-requires c κs = tt
 
 returns : tie.Need-returns
 unfolding asking telling

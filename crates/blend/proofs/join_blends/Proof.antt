@@ -3,7 +3,6 @@ use mathlib.Core.Path.{_≡_, sym, ap, _∙_}
 use mathlib.Core.Bool.{true, false}
 use Prim.Native.Nat.{_+_}
 use native.Mathlib.Omega.{arith}
-use borrow.Author.Needs.{needs}
 use borrow.Author.Tests.{not-true, not-false, lt-ltb, le-ltb}
 use Rattle.answer.specs.Outcome.{answered}
 use Rattle.blend.specs.declared.Blend.{Blend}
@@ -59,15 +58,15 @@ pub join-blends-spec : {M : Type 1} → statement M
 join-blends-spec =
     tie.close
     (tie.spec
-    (λ c κs. search needs)
-    (λ c κs. search needs)
+    (λ c κs. tt)
+    (λ c κs. tt)
     returns
-    (λ c κs. search needs)
-    (λ c κs. search needs)
+    (λ c κs. tt)
+    (λ c κs. tt)
     returns-2
     sub-if3
-    (λ c κs. search needs)
+    (λ c κs. tt)
     returns-3
     with-blend-requires
-    (λ c κs. search needs)
+    (λ c κs. tt)
     returns-4)

@@ -1,5 +1,4 @@
 -- `molar_mass` meets its contract: a weighted sum, which is M as printed where no count is above 200.
-use borrow.Author.Needs.{needs}
 use Rattle.elements.proofs.Above.{above-none}
 use Rattle.blend.proofs.Masses.{mass-is}
 use Rattle.blend.proofs.molar_mass.Statement.{statement}
@@ -11,4 +10,4 @@ returns c =
     (c .weighted-sum .ensures, λ e. rw (c .weighted-sum .ensures) (mass-is a (record { most = above-none 200 a e }) .cross))
 
 pub molar-mass-spec : {M : Type 1} → statement M
-molar-mass-spec = tie.close (tie.spec (λ c κs. search needs) returns)
+molar-mass-spec = tie.close (tie.spec (λ c κs. tt) returns)

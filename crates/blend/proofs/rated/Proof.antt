@@ -15,7 +15,7 @@ mul-round-div-3 : tie.Need-mul-round-div-3
 mul-round-div-3 c = omega (arith, rated-products (c .pre))
 
 round-div-requires : tie.Need-round-div-requires
-round-div-requires c κs = search needs
+round-div-requires c κs = tt
 
 returns : tie.Need-returns
 returns c = search needs

@@ -55,8 +55,8 @@ first-above-200-spec =
     (tie.spec
     Inv-loop
     μ-loop
-    (λ c κs. search needs)
-    (λ c κs. search needs)
+    (λ c κs. tt)
+    (λ c κs. tt)
     returns
     (λ c. (omega arith, refl))
     (λ c. search needs)

@@ -13,4 +13,4 @@ returns-2 : tie.Need-returns-2
 returns-2 c = let a = c .before .before .before .before .args in rw (c .byte-at .ensures) (sym (crlf-half (a .s .now) (a .at) (omega arith)))
 
 pub is-crlf-at-spec : {M : Type 1} → statement M
-is-crlf-at-spec = tie.close (tie.spec (λ c. search needs) returns (λ c. search needs) (λ c κs. search needs) returns-2)
+is-crlf-at-spec = tie.close (tie.spec (λ c. search needs) returns (λ c. search needs) (λ c κs. tt) returns-2)

@@ -1,14 +1,13 @@
 -- `is_empty` meets its contract: the search for a count above 0 finds none.
-use borrow.Author.Needs.{needs}
 use Rattle.elements.proofs.Above.{empty-told}
 use Rattle.elements.proofs.is_empty.Statement.{statement}
 use Rattle.elements.proofs.is_empty.Tie as tie
 
 each-requires : tie.Need-each-requires
-each-requires c κs = search needs
+each-requires c κs = tt
 
 first-above-requires : tie.Need-first-above-requires
-first-above-requires c κs = search needs
+first-above-requires c κs = tt
 
 returns : tie.Need-returns
 returns c = empty-told _ _ (rw (c .before .each .ensures) at (c .first-above .ensures))

@@ -55,7 +55,7 @@ first-missing-spec =
     (λ c. search needs)
     (λ c. search needs)
     (λ c. search needs)
-    (λ c κs. search needs)
+    (λ c κs. tt)
     (λ c. omega arith)
     returns
     (λ c. omega arith)

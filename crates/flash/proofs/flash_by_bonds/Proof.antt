@@ -124,24 +124,24 @@ pub flash-by-bonds-spec : {M : Type 1} → statement M
 flash-by-bonds-spec =
     tie.close
     (tie.spec
-    (λ c κs. search needs)
-    (λ c κs. search needs)
+    (λ c κs. tt)
+    (λ c κs. tt)
     returns
-    (λ c κs. search needs)
-    (λ c κs. search needs)
+    (λ c κs. tt)
+    (λ c κs. tt)
     returns-2
-    (λ c κs. search needs)
-    (λ c κs. search needs)
+    (λ c κs. tt)
+    (λ c κs. tt)
     returns-3
     (λ c κs. known (c .before .before .before .before) .1)
     first-missing-requires
-    (λ c κs. search needs)
+    (λ c κs. tt)
     returns-4
-    (λ c κs. search needs)
-    (λ c κs. search needs)
+    (λ c κs. tt)
+    (λ c κs. tt)
     returns-5
     (λ c κs. known (c .before .before .before .before .before .before .before .before .before) .1)
     line-sum-requires
     bond-sum-requires
-    (λ c κs. search needs)
+    (λ c κs. tt)
     returns-6)

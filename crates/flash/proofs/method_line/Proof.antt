@@ -1,7 +1,6 @@
 -- `method_line` meets its contract: each arm is a line of the table.
 use mathlib.Core.Path.{_≡_}
 use native.Mathlib.Omega.{arith}
-use borrow.Author.Needs.{needs}
 use Rattle.flash.specs.Tables.{methods}
 use Rattle.flash.proofs.method_line.Statement.{statement}
 use Rattle.flash.proofs.method_line.Tie as tie
@@ -11,9 +10,9 @@ unfolding methods
 method-line-spec =
     tie.close
     (tie.spec
-    (λ c κs. search needs)
-    (λ c κs. search needs)
-    (λ c κs. search needs)
+    (λ c κs. tt)
+    (λ c κs. tt)
+    (λ c κs. tt)
     (λ c. rw (c .before .match .keys1) (c .line-of .ensures))
     (λ c. rw (c .before .match .keys2) (c .line-of2 .ensures))
     (λ c. let last : c .before .before .args .method ≡ 3 = omega arith in rw last (c .line-of3 .ensures)))

@@ -16,4 +16,4 @@ returns c =
     (toZ-ofZ {w = w64} {z = r .round-div-signed .result} (search needs) ∙ rw (toZ-ofZ (r .before .fits .sum)) at (r .round-div-signed .ensures .0))
 
 pub rounded-spec : {M : Type 1} → statement M
-rounded-spec = tie.close (tie.spec (λ c κs. search needs) (λ c κs. search needs) returns)
+rounded-spec = tie.close (tie.spec (λ c κs. tt) (λ c κs. tt) returns)

@@ -14,7 +14,7 @@ element-copy-out-capped-sum : tie.Need-element-copy-out-capped-sum
 element-copy-out-capped-sum c = search needs
 
 capped-sum-requires : tie.Need-capped-sum-requires
-capped-sum-requires c κs = search needs
+capped-sum-requires c κs = tt
 
 mul-counts : tie.Need-mul-counts
 mul-counts c = search needs

@@ -2,7 +2,6 @@
 use mathlib.Core.Path.{refl}
 use Prim.Native.Nat.{_-_}
 use native.Mathlib.Omega.{arith}
-use borrow.Author.Needs.{needs}
 use Rattle.formula.proofs.Caps.{Raised, raised-more, adds-group}
 use Rattle.formula.proofs.add_group.Statement.{statement}
 use Rattle.formula.proofs.add_group.Tie as tie
@@ -29,7 +28,7 @@ array-read-capped-sum : tie.Need-array-read-capped-sum Inv-loop μ-loop
 array-read-capped-sum c = omega arith
 
 capped-sum-requires : tie.Need-capped-sum-requires Inv-loop μ-loop
-capped-sum-requires c κs = search needs
+capped-sum-requires c κs = tt
 
 mul-counts : tie.Need-mul-counts Inv-loop μ-loop
 mul-counts c = omega arith

@@ -3,7 +3,6 @@ use mathlib.Core.Path.{_∙_}
 use Prim.Native.Nat.{_*_, _≤_}
 use native.Mathlib.Omega.{arith}
 use native.Mathlib.Nat.{mul-le-mul}
-use borrow.Author.Needs.{needs}
 use Rattle.formula.proofs.Caps.{cap-early}
 use Rattle.formula.proofs.capped_sum.Statement.{statement}
 use Rattle.formula.proofs.capped_sum.Tie as tie
@@ -12,13 +11,13 @@ small : (c : tie.After-capped3) → c .before .capped2 .result * c .capped3 .res
 small c = mul-le-mul {n₂ = 201} {m₂ = 201} (omega arith) (omega arith)
 
 capped-requires : tie.Need-capped-requires
-capped-requires c κs = search needs
+capped-requires c κs = tt
 
 capped-requires-2 : tie.Need-capped-requires-2
-capped-requires-2 c κs = search needs
+capped-requires-2 c κs = tt
 
 capped-requires-3 : tie.Need-capped-requires-3
-capped-requires-3 c κs = search needs
+capped-requires-3 c κs = tt
 
 mul-capped : tie.Need-mul-capped
 mul-capped c = omega (arith, small c)
@@ -27,7 +26,7 @@ add-capped : tie.Need-add-capped
 add-capped c = omega (arith, small c)
 
 capped-requires-4 : tie.Need-capped-requires-4
-capped-requires-4 c κs = search needs
+capped-requires-4 c κs = tt
 
 returns : tie.Need-returns
 returns c = c .capped4 .ensures ∙ rw (c .before .capped3 .ensures, c .before .before .capped2 .ensures, c .before .before .before .capped .ensures) (cap-early _ _ _)

@@ -20,7 +20,7 @@ multiple-at-requires : tie.Need-multiple-at-requires
 multiple-at-requires c κs = search needs
 
 add-group-requires : tie.Need-add-group-requires
-add-group-requires c κs = search needs
+add-group-requires c κs = tt
 
 add-t8 : tie.Need-add-t8
 add-t8 c = search needs

@@ -27,16 +27,16 @@ module _ (c : tie.After-symbol-of) where
   inside = symbol-inside s at _ is (c .before .before .before .before .pre)
 
 byte-at-requires : tie.Need-byte-at-requires
-byte-at-requires c κs = search needs
+byte-at-requires c κs = tt
 
 add-byte-at : tie.Need-add-byte-at
 add-byte-at c = search needs
 
 byte-at-requires-2 : tie.Need-byte-at-requires-2
-byte-at-requires-2 c κs = search needs
+byte-at-requires-2 c κs = tt
 
 symbol-of-requires : tie.Need-symbol-of-requires
-symbol-of-requires c κs = search needs
+symbol-of-requires c κs = tt
 
 add-behind : tie.Need-add-behind
 add-behind c = omega (arith, inside (c .before))

@@ -2,7 +2,6 @@
 use mathlib.Core.Path.{_≡_, ap}
 use mathlib.Core.Option.{Option·getD}
 use native.Mathlib.Omega.{arith}
-use borrow.Author.Needs.{needs}
 use Rattle.answer.specs.Outcome.{answered}
 use Rattle.answer.proofs.Lowest.{found-at}
 use Rattle.elements.specs.declared.Atoms.{Atoms}
@@ -17,13 +16,13 @@ over : (c : tie.After-first-above) → c .first-above .result ≡ Option·getD (
 over c = rw (c .before .each .ensures) at (c .first-above .ensures)
 
 each-requires : tie.Need-each-requires
-each-requires c κs = search needs
+each-requires c κs = tt
 
 first-above-requires : tie.Need-first-above-requires
-first-above-requires c κs = search needs
+first-above-requires c κs = tt
 
 refused-formula-requires : tie.Need-refused-formula-requires
-refused-formula-requires c κs = search needs
+refused-formula-requires c κs = tt
 
 returns : tie.Need-returns
 returns c m h =

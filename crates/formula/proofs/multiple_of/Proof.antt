@@ -21,7 +21,7 @@ third : (c : tie.Else3) → digitFrom 48 (c .before .before .before .before .bef
 third c = sym (c .before .is-digit-from3 .ensures) ∙ not-false _ (c .if3 .left)
 
 is-digit-from-requires : tie.Need-is-digit-from-requires
-is-digit-from-requires c κs = search needs
+is-digit-from-requires c κs = tt
 
 returns : tie.Need-returns
 unfolding multipleOf
@@ -34,7 +34,7 @@ cast-x : tie.Need-cast-x
 cast-x c = search needs
 
 is-digit-from-requires-2 : tie.Need-is-digit-from-requires-2
-is-digit-from-requires-2 c κs = search needs
+is-digit-from-requires-2 c κs = tt
 
 returns-2 : tie.Need-returns-2
 unfolding multipleOf
@@ -53,7 +53,7 @@ add-y : tie.Need-add-y
 add-y c = search needs
 
 is-digit-from-requires-3 : tie.Need-is-digit-from-requires-3
-is-digit-from-requires-3 c κs = search needs
+is-digit-from-requires-3 c κs = tt
 
 returns-3 : tie.Need-returns-3
 unfolding multipleOf

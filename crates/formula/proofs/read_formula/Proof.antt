@@ -21,7 +21,7 @@ met : (t : List ℕ) (r : FormulaRead) → r ≡ formulaRead t → (r ≡ formul
 met t r e = (e, by-grammar t r e)
 
 refused-formula-requires : tie.Need-refused-formula-requires
-refused-formula-requires c κs = search needs
+refused-formula-requires c κs = tt
 
 returns : tie.Need-returns
 unfolding formulaRead reading
@@ -31,10 +31,10 @@ formula-at-requires : tie.Need-formula-at-requires
 formula-at-requires c κs = search needs
 
 is-left-requires : tie.Need-is-left-requires
-is-left-requires c κs = search needs
+is-left-requires c κs = tt
 
 refused-formula-requires-2 : tie.Need-refused-formula-requires-2
-refused-formula-requires-2 c κs = search needs
+refused-formula-requires-2 c κs = tt
 
 returns-2 : tie.Need-returns-2
 unfolding formulaRead reading
@@ -45,7 +45,7 @@ returns-2 c =
     met s _ (rw (le-ltb 256 (length s) (omega arith), left) (c .refused-formula2 .ensures))
 
 judge-requires : tie.Need-judge-requires
-judge-requires c κs = search needs
+judge-requires c κs = tt
 
 returns-3 : tie.Need-returns-3
 unfolding formulaRead reading

@@ -1,10 +1,9 @@
 -- `refused_formula` meets its contract: all counts are 0.
-use borrow.Author.Needs.{needs}
 use Rattle.formula.proofs.refused_formula.Statement.{statement}
 use Rattle.formula.proofs.refused_formula.Tie as tie
 
 each-requires : tie.Need-each-requires
-each-requires c κs = search needs
+each-requires c κs = tt
 
 returns : tie.Need-returns
 returns c = rw (c .each .ensures)

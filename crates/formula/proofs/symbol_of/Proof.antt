@@ -4,7 +4,6 @@ use mathlib.Core.List.{[], _∷_}
 use mathlib.Core.Option.{Option, some, none}
 use Prim.Native.Nat.{ℕ, _<_, _≤_}
 use native.Mathlib.Omega.{arith}
-use borrow.Author.Needs.{needs}
 use lib.ListN.{length}
 use Rattle.elements.specs.declared.Element.{Element}
 use Rattle.elements.proofs.Elements.{number-from}
@@ -24,14 +23,14 @@ two-numbered b c k (some e) q n l = ap₂ (λ (x w : ℕ). record { number = x; 
 two-numbered b c k none q n l = absurd (omega arith)
 
 two-letters-requires : tie.Need-two-letters-requires
-two-letters-requires c κs = search needs
+two-letters-requires c κs = tt
 
 returns : tie.Need-returns
 unfolding symbolOf
 returns c = let a = c .before .before .args in two-numbered (a .b) (a .c) _ _ refl (c .before .two-letters .ensures) (omega arith)
 
 one-letter-requires : tie.Need-one-letter-requires
-one-letter-requires c κs = search needs
+one-letter-requires c κs = tt
 
 returns-2 : tie.Need-returns-2
 unfolding symbolOf

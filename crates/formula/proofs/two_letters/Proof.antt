@@ -2,7 +2,6 @@
 use mathlib.Core.Path.{_≡_, refl}
 use mathlib.Core.Bool.{Bool, true, false, cond, and-true, and-false}
 use mathlib.Core.Option.{some, none}
-use borrow.Author.Needs.{needs}
 use borrow.Author.Tests.{ne-eqb}
 use Rattle.elements.specs.declared.Element.{Element}
 use Rattle.elements.specs.Elements.{number}
@@ -15,13 +14,13 @@ number-if true e = refl
 number-if false e = refl
 
 number-if-requires : tie.Need-number-if-requires
-number-if-requires c κs = search needs
+number-if-requires c κs = tt
 
 number-if-requires-2 : tie.Need-number-if-requires-2
-number-if-requires-2 c κs = search needs
+number-if-requires-2 c κs = tt
 
 number-if-requires-3 : tie.Need-number-if-requires-3
-number-if-requires-3 c κs = search needs
+number-if-requires-3 c κs = tt
 
 returns : tie.Need-returns
 returns c = simp (c .before .match .keys1, and-false, and-true, number-if) (c .number-if .ensures)

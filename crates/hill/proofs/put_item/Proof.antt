@@ -12,7 +12,7 @@ returns c =
     rw (item-none (a .e) (a .n) (omega arith)) (puts-none _ _)
 
 put-symbol-requires : tie.Need-put-symbol-requires
-put-symbol-requires c κs = search needs
+put-symbol-requires c κs = tt
 
 same-length : tie.Need-same-length
 same-length c = search needs
@@ -24,7 +24,7 @@ returns-2 c =
     rw (item-one (a .e) (a .n) (omega arith)) (puts-one (p .put-symbol .ensures))
 
 put-decimal-requires : tie.Need-put-decimal-requires
-put-decimal-requires c κs = search needs
+put-decimal-requires c κs = tt
 
 same-length-2 : tie.Need-same-length-2
 same-length-2 c = search needs

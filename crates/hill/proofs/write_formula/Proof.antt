@@ -21,23 +21,23 @@ over : (c : tie.After-first-above) → c .first-above .result ≡ Option·getD (
 over c = rw (c .before .each .ensures) at (c .first-above .ensures)
 
 is-empty-requires : tie.Need-is-empty-requires
-is-empty-requires c κs = search needs
+is-empty-requires c κs = tt
 
 refused-text-requires : tie.Need-refused-text-requires
-refused-text-requires c κs = search needs
+refused-text-requires c κs = tt
 
 returns : tie.Need-returns
 unfolding writing formulaWritten roomAfter
 returns c = rw (sym (c .before .before .is-empty .ensures) ∙ c .before .if1 .taken) (c .refused-text .ensures, (refl, round-trip))
 
 each-requires : tie.Need-each-requires
-each-requires c κs = search needs
+each-requires c κs = tt
 
 first-above-requires : tie.Need-first-above-requires
-first-above-requires c κs = search needs
+first-above-requires c κs = tt
 
 refused-text-requires-2 : tie.Need-refused-text-requires-2
-refused-text-requires-2 c κs = search needs
+refused-text-requires-2 c κs = tt
 
 returns-2 : tie.Need-returns-2
 unfolding writing formulaWritten roomAfter
@@ -56,7 +56,7 @@ slice-aggregate-write-whole : tie.Need-slice-aggregate-write-whole
 slice-aggregate-write-whole c = simp length-take (omega (arith, c .before .before .before .hill-line .ensures))
 
 write-whole-requires : tie.Need-write-whole-requires
-write-whole-requires c κs = search needs
+write-whole-requires c κs = tt
 
 same-length : tie.Need-same-length
 same-length c = search needs

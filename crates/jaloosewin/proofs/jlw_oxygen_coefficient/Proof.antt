@@ -1,5 +1,4 @@
 -- `jlw_oxygen_coefficient` asks of the counts that its text reads to.
-use borrow.Author.Needs.{needs}
 use Rattle.answer.specs.Outcome.{shownFigure}
 use Rattle.formula.proofs.Texts.{asked-of-text}
 use Rattle.oxygen.specs.Admission.{oxygenCoefficient}
@@ -10,4 +9,4 @@ returns : tie.Need-returns
 returns c = asked-of-text _ _ (c .before .before .before .read-formula .ensures .0) shownFigure oxygenCoefficient (c .before .oxygen-coefficient .ensures .0) (c .figure-unless .ensures)
 
 pub jlw-oxygen-coefficient-spec : {M : Type 1} → statement M
-jlw-oxygen-coefficient-spec = tie.close (tie.spec (λ c κs. search needs) (λ c κs. search needs) (λ c κs. search needs) returns)
+jlw-oxygen-coefficient-spec = tie.close (tie.spec (λ c κs. tt) (λ c κs. tt) (λ c κs. tt) returns)

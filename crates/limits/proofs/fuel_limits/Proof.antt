@@ -1,12 +1,11 @@
 -- `fuel_limits` meets its contract: with none named, the usual temperature is meant.
-use borrow.Author.Needs.{needs}
 use Rattle.limits.specs.FuelLimits.{fuelLimits}
 use Rattle.limits.proofs.Alone.{as-blend}
 use Rattle.limits.proofs.fuel_limits.Statement.{statement}
 use Rattle.limits.proofs.fuel_limits.Tie as tie
 
 fuel-limits-at-requires : tie.Need-fuel-limits-at-requires
-fuel-limits-at-requires c κs = search needs
+fuel-limits-at-requires c κs = tt
 
 returns : tie.Need-returns
 unfolding fuelLimits

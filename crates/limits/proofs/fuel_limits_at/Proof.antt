@@ -3,7 +3,6 @@ use mathlib.Core.Path.{_≡_, ap, _∙_}
 use mathlib.Core.Option.{some}
 use native.Mathlib.Omega.{arith}
 use mir.Facts.{toZ-ofZ}
-use borrow.Author.Needs.{needs}
 use Rattle.answer.specs.Outcome.{Outcome, refused, answered}
 use Rattle.blend.specs.declared.Blend.{Blend}
 use Rattle.blend.specs.Fuel.{counts}
@@ -47,9 +46,9 @@ pub fuel-limits-at-spec : {M : Type 1} → statement M
 fuel-limits-at-spec =
     tie.close
     (tie.spec
-    (λ c κs. search needs)
-    (λ c κs. search needs)
-    (λ c κs. search needs)
+    (λ c κs. tt)
+    (λ c κs. tt)
+    (λ c κs. tt)
     returns
-    (λ c κs. search needs)
+    (λ c κs. tt)
     returns-2)

@@ -5,7 +5,6 @@ use Prim.Native.Nat.{ℕ, _≤_}
 use native.Mathlib.Omega.{arith}
 use lib.IntN.{natAbs}
 use mir.Facts.{toZ-ofZ}
-use borrow.Author.Needs.{needs}
 use Rattle.answer.specs.Outcome.{refused, answered}
 use Rattle.elements.specs.Internal.{AtMost200}
 use Rattle.blend.specs.Blend.{shownLimits}
@@ -67,10 +66,10 @@ pub mass-concentration-spec : {M : Type 1} → statement M
 mass-concentration-spec =
     tie.close
     (tie.spec
-    (λ c κs. search needs)
+    (λ c κs. tt)
     returns
-    (λ c κs. search needs)
-    (λ c κs. search needs)
+    (λ c κs. tt)
+    (λ c κs. tt)
     rate-of-requires
     rate-of-requires-2
     returns-2)

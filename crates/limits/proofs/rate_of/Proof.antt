@@ -28,5 +28,5 @@ rate-of-spec =
     mul-round-div-2
     (λ c. search needs)
     (λ c. search needs)
-    (λ c κs. search needs)
+    (λ c κs. tt)
     returns)

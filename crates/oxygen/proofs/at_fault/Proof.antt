@@ -18,10 +18,10 @@ returns : tie.Need-returns
 returns c = sym (ap number (without-carbon _ _ (omega arith)))
 
 most-atoms-requires : tie.Need-most-atoms-requires
-most-atoms-requires c κs = search needs
+most-atoms-requires c κs = tt
 
 first-above-requires : tie.Need-first-above-requires
-first-above-requires c κs = search needs
+first-above-requires c κs = tt
 
 returns-2 : tie.Need-returns-2
 returns-2 c = rw (c .before .most-atoms .ensures) at (c .first-above .ensures) ∙ sym (ap number (with-carbon _ _ (λ z. omega arith)))

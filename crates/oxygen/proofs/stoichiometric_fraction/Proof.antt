@@ -33,10 +33,10 @@ pub stoichiometric-fraction-spec : {M : Type 1} → statement M
 stoichiometric-fraction-spec =
     tie.close
     (tie.spec
-    (λ c κs. search needs)
+    (λ c κs. tt)
     returns
     (λ c. search needs)
     (λ c. search needs)
-    (λ c κs. search needs)
-    (λ c κs. search needs)
+    (λ c κs. tt)
+    (λ c κs. tt)
     returns-2)

@@ -2,7 +2,6 @@
 use mathlib.Core.Path.{_≡_}
 use Prim.Native.Nat.{ℕ, _+_, _*_, _<_}
 use native.Mathlib.Omega.{arith}
-use borrow.Author.Needs.{needs}
 use Rattle.rounding.specs.Round.{roundDiv}
 use Rattle.rounding.specs.Rounds.{Rounds}
 use Rattle.rounding.proofs.Rounding.{divided-parts, nearest-is, round-by-zero, round-le, rounds}
@@ -35,7 +34,7 @@ returns : tie.Need-returns
 returns c = answer _ _ _ (rw (c .if1 .taken) (omega (arith, round-by-zero (c .before .args .n))))
 
 divide-requires : tie.Need-divide-requires
-divide-requires c κs = search needs
+divide-requires c κs = tt
 
 sub-if2 : tie.Need-sub-if2
 sub-if2 c = omega (arith, parts c)

@@ -42,10 +42,10 @@ not-negative : (c : tie.Else1) → ltZ (n (c .before)) (pos 0) ≡ false
 not-negative c = rw (stored (c .before)) at (c .if1 .left)
 
 size-requires : tie.Need-size-requires
-size-requires c κs = search needs
+size-requires c κs = tt
 
 round-div-requires : tie.Need-round-div-requires
-round-div-requires c κs = search needs
+round-div-requires c κs = tt
 
 negated-requires : tie.Need-negated-requires
 negated-requires c κs =

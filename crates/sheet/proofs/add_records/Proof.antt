@@ -1,5 +1,4 @@
 -- `add_records` meets its contract: all records added are those from here on added to the blend so far.
-use borrow.Author.Needs.{needs}
 use mathlib.Core.List.{List}
 use Prim.Native.Nat.{ℕ, _-_, _≤_, _<_}
 use native.Mathlib.Omega.{arith}

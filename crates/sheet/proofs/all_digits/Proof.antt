@@ -1,5 +1,4 @@
 -- `all_digits` meets its contract: all are digits where all from here on are.
-use borrow.Author.Needs.{needs}
 use borrow.Author.Tests.{not-true, not-false}
 use mathlib.Core.Path.{_≡_, refl, sym, _∙_}
 use Prim.Native.Nat.{_-_}

@@ -1,5 +1,4 @@
 -- `first_bad_record` meets its contract: the first bad record is the first from here on.
-use borrow.Author.Needs.{needs}
 use borrow.Author.Tests.{not-true, not-false}
 use mathlib.Core.Path.{sym, ap, _∙_}
 use mathlib.Core.List.{List}

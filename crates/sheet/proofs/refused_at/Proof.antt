@@ -1,5 +1,4 @@
 -- `refused_at` meets its contract.
-use borrow.Author.Needs.{needs}
 use Rattle.sheet.proofs.refused_at.Statement.{statement}
 use Rattle.sheet.proofs.refused_at.Tie as tie
 

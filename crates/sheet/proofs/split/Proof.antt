@@ -1,5 +1,4 @@
 -- `split` meets its contract.
-use borrow.Author.Needs.{needs}
 use Rattle.sheet.proofs.Records.{splits}
 use Rattle.sheet.proofs.split.Statement.{statement}
 use Rattle.sheet.proofs.split.Tie as tie

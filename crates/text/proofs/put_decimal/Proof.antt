@@ -19,7 +19,7 @@ returns : tie.Need-returns
 returns c = c .before .before .put-short .ensures
 
 digits-of-requires : tie.Need-digits-of-requires
-digits-of-requires c κs = search needs
+digits-of-requires c κs = tt
 
 sub-put : tie.Need-sub-put
 sub-put c = search needs
@@ -31,7 +31,7 @@ part-put-end : tie.Need-part-put-end
 part-put-end c = search needs
 
 put-requires : tie.Need-put-requires
-put-requires c κs = search needs
+put-requires c κs = tt
 
 same-length-2 : tie.Need-same-length-2
 same-length-2 c = search needs

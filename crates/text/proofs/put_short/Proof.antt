@@ -37,7 +37,7 @@ slice-aggregate-put : tie.Need-slice-aggregate-put
 slice-aggregate-put c = search needs
 
 put-requires : tie.Need-put-requires
-put-requires c κs = search needs
+put-requires c κs = tt
 
 same-length : tie.Need-same-length
 same-length c = search needs
@@ -46,7 +46,7 @@ returns : tie.Need-returns
 returns c = rw (one (c .before .before .before .before .before)) at (c .before .before .put .ensures)
 
 divide-requires : tie.Need-divide-requires
-divide-requires c κs = search needs
+divide-requires c κs = tt
 
 digit-requires-2 : tie.Need-digit-requires-2
 digit-requires-2 c κs = omega (arith, tenth (c .before))
@@ -58,7 +58,7 @@ slice-aggregate-put-2 : tie.Need-slice-aggregate-put-2
 slice-aggregate-put-2 c = search needs
 
 put-requires-2 : tie.Need-put-requires-2
-put-requires-2 c κs = search needs
+put-requires-2 c κs = tt
 
 same-length-2 : tie.Need-same-length-2
 same-length-2 c = search needs
@@ -67,7 +67,7 @@ returns-2 : tie.Need-returns-2
 returns-2 c = rw (two (c .before .before .before .before .before)) at (c .before .before .put2 .ensures)
 
 divide-requires-2 : tie.Need-divide-requires-2
-divide-requires-2 c κs = search needs
+divide-requires-2 c κs = tt
 
 digit-requires-4 : tie.Need-digit-requires-4
 digit-requires-4 c κs = omega (arith, tenth (c .before .before), hundredth c)
@@ -82,7 +82,7 @@ slice-aggregate-put-3 : tie.Need-slice-aggregate-put-3
 slice-aggregate-put-3 c = search needs
 
 put-requires-3 : tie.Need-put-requires-3
-put-requires-3 c κs = search needs
+put-requires-3 c κs = tt
 
 same-length-3 : tie.Need-same-length-3
 same-length-3 c = search needs
