@@ -4,7 +4,7 @@ ghost use lib.IntN.{pos};
 ghost use Rattle.answer.specs.Outcome.{refused, answered, refusal, unless, shownFigure, shownTemperature};
 ghost use Rattle.answer.specs.Outside.{outside};
 
-// Number 0, place 0: not refused.
+// A number of the table, and a place.
 #[repr(C)]
 pub struct Refusal {
     pub number: u64,
@@ -24,6 +24,12 @@ pub struct Temperature {
     pub refusal: Refusal,
     pub value: i64,
 }
+
+// What an answer has that is not refused.
+pub const NOT_REFUSED: Refusal = Refusal {
+    number: 0,
+    place: 0,
+};
 
 // The table's numbers. specs/Numbers.antt has the same names, with what each is given for.
 pub const NO_FORMULA: u64 = 1;
@@ -69,10 +75,7 @@ pub fn answered_figure(value: u64) -> Figure
     ensures { λ r. ⌜ r ≡ shownFigure (answered value) ⌝ }
 {
     Figure {
-        refusal: Refusal {
-            number: 0,
-            place: 0,
-        },
+        refusal: NOT_REFUSED,
         value,
     }
 }
@@ -101,10 +104,7 @@ pub fn answered_temperature(value: i64) -> Temperature
     ensures { λ r. ⌜ r ≡ shownTemperature (answered value) ⌝ }
 {
     Temperature {
-        refusal: Refusal {
-            number: 0,
-            place: 0,
-        },
+        refusal: NOT_REFUSED,
         value,
     }
 }

@@ -6,14 +6,14 @@ use Prim.Native.Nat.{ℕ, _+_, _*_, _≤_, _<_}
 use native.Mathlib.Nat.{le-trans, le-of-eq, mul-le-mul-left, mul-le-mul-right, add-le-add, eq-zero-or-pos}
 use native.Mathlib.Decide.{decLt}
 use native.Mathlib.Omega.{arith}
-use Rattle.rounding.specs.Fraction.{Fraction, whole, _⊠_, _⊑_, figure}
-use Rattle.rounding.proofs.Fractions.{is-whole, is-times, at-most-is, at-most-times, times-at-most, figure-mono}
+use Rattle.rounding.specs.Fraction.{Fraction, _⊑_}
+use Rattle.rounding.proofs.Fractions.{at-most-is, at-most-times}
 use Rattle.elements.specs.declared.Atoms.{Atoms}
 use Rattle.blend.specs.Limit.{Side}
 use Rattle.blend.specs.Temperature.{correction}
 use Rattle.blend.specs.Blend.{unit}
-use Rattle.blend.specs.Model.{Entry, Entries, sum, total, leChatelier, limitAt, limitFigure}
-use Rattle.blend.specs.Claims.{alone, Between}
+use Rattle.blend.specs.Model.{Entry, Entries, sum, total, limitAt}
+use Rattle.blend.specs.Claims.{alone}
 use Rattle.blend.proofs.Sums.{weightOf, weighs}
 use Rattle.blend.proofs.LeChatelier.{correction-is, le-chatelier-is}
 
@@ -89,20 +89,28 @@ at-most = record { eq = le-of-eq; trans = le-trans; plus = add-le-add; times = m
 at-least : Order (λ a b. b ≤ a)
 at-least = record { eq = λ q. le-of-eq (sym q); trans = λ x y. le-trans y x; plus = add-le-add; times = mul-le-mul-left; either = λ a b. either-way b a }
 
--- LIMITS go by the total over the weight, unrounded and as answered.
+-- two entries with parts above zero: one has alone at most the quantity of all, and one at least that
+pub record Bracket (quantity : Entries → Fraction) (es : Entries) : Type 0 where
+  pub low : Entry
+  pub low-taken : List·Memᴰ low es
+  pub low-present : 0 < low .parts
+  pub above : quantity (alone low) ⊑ quantity es
+  pub high : Entry
+  pub high-taken : List·Memᴰ high es
+  pub high-present : 0 < high .parts
+  pub below : quantity es ⊑ quantity (alone high)
+
+-- LIMITS go by the total over the weight.
 module _ (s : Side) (t : ℕ) where
-  module _ (es fs : Entries) (h : 0 < total es) (g : 0 < total fs) (l : total es * sum (weighs s) fs ≤ total fs * sum (weighs s) es) where
-    limit-mono : limitAt s es t ⊑ limitAt s fs t
-    unfolding limitAt
-    limit-mono =
-        let u = mul-le-mul-right (100 * unit s) l in
-        at-most-times (correction s t) (correction-is s t .den-pos) (at-most-is (le-chatelier-is s es h) (le-chatelier-is s fs g) (omega arith))
+  limit-mono : (es fs : Entries) → 0 < total es → 0 < total fs → total es * sum (weighs s) fs ≤ total fs * sum (weighs s) es →
+      limitAt s es t ⊑ limitAt s fs t
+  unfolding limitAt
+  limit-mono es fs h g l =
+      let u = mul-le-mul-right (100 * unit s) l in
+      at-most-times (correction s t) (correction-is s t .den-pos) (at-most-is (le-chatelier-is s es h) (le-chatelier-is s fs g) (omega arith))
 
-    answer-mono : figure (whole 100 ⊠ limitAt s es t) ≤ figure (whole 100 ⊠ limitAt s fs t)
-    answer-mono = figure-mono (times-at-most (whole 100) (is-whole 100 .den-pos) limit-mono)
-
-  pub bracketed : (es : Entries) → 0 < total es → Between (λ fs. limitAt s fs t) es (limitFigure s es t)
-  unfolding sum limitFigure
+  pub bracketed : (es : Entries) → 0 < total es → Bracket (λ fs. limitAt s fs t) es
+  unfolding sum
   bracketed es h =
       let a = extreme (weightOf s) (λ a b. a ≤ b) at-most es h in
       let b = extreme (weightOf s) (λ a b. b ≤ a) at-least es h in
@@ -112,11 +120,9 @@ module _ (s : Side) (t : ℕ) where
         low = a .0;
         low-taken = a .1;
         low-present = a .2;
-        above-exact = limit-mono (alone (a .0)) es (omega arith) h (omega arith);
-        above = answer-mono (alone (a .0)) es (omega arith) h (omega arith);
+        above = limit-mono (alone (a .0)) es (omega arith) h (omega arith);
         high = b .0;
         high-taken = b .1;
         high-present = b .2;
-        below-exact = limit-mono es (alone (b .0)) h (omega arith) (omega arith);
-        below = answer-mono es (alone (b .0)) h (omega arith) (omega arith);
+        below = limit-mono es (alone (b .0)) h (omega arith) (omega arith);
       }

@@ -4,9 +4,13 @@ pub mod Admitted
 pub mod Sums
 pub mod LeChatelier
 pub mod Bracket
+pub mod Between
 pub mod Keepers
 pub mod Runs
+pub mod ZeroParts
 pub mod Refusals
+pub mod Over
+pub mod Pages
 pub mod Routes
 pub mod Theorem
 pub mod Figures

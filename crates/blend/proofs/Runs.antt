@@ -1,4 +1,4 @@
--- The blends follow the model: each holds the sums of its entries, within the bounds.
+-- The blends follow the model: each holds the sums of its entries, within the bounds, and took in admitted fuels alone.
 use mathlib.Core.Path.{_≡_, refl, subst}
 use mathlib.Core.Bool.{Bool, true, false}
 use mathlib.Core.List.{List, [], _∷_, _++_}
@@ -22,7 +22,7 @@ use Rattle.blend.specs.Model.{entry, Entries, sum, total, modelAdds, mod
 use Rattle.blend.specs.Claims.{keeper, blends, entries, blendAnswers, modelAnswers}
 use Rattle.blend.proofs.Weights.{weight-least, weight-most}
 use Rattle.blend.proofs.Bounds.{within-test}
-use Rattle.blend.proofs.Admitted.{AdmittedFuel, admitted-fuel}
+use Rattle.blend.proofs.Admitted.{AdmittedFuel, admitted-fuel, AllAdmitted, none-admitted, one-admitted, append-admitted}
 use Rattle.blend.proofs.Sums.{blendOf, sum-append, sum-one}
 use Rattle.blend.proofs.LeChatelier.{blend-limit}
 use Rattle.blend.proofs.Keepers.{Alike, refusing, answering, refuse-alike, Follows, answer-alike, after-hold, answers-alike}
@@ -30,10 +30,11 @@ use Rattle.blend.proofs.Keepers.{Alike, refusing, answering, refuse-ali
 record Represents (b : Blend) (es : Entries) : Type 0 where
   is : b ≡ blendOf es
   fit : Within (blendOf es)
+  fuels : AllAdmitted es
 
 empty-represents : Represents emptyBlend []
 unfolding sum
-empty-represents = record { is = refl; fit = omega arith }
+empty-represents = record { is = refl; fit = omega arith; fuels = none-admitted }
 
 -- ADDING
 module _ (es : Entries) (w : Within (blendOf es)) (a : Atoms) (known : AdmittedFuel a) (v : ℕ) where
@@ -48,8 +49,9 @@ module _ (es : Entries) (w : Within (blendOf es)) (a : Atoms) (known : AdmittedF
       let u₁ = mul-le-mul-left v (weight-most upper (quarters a) (known .most)) in
       omega arith
 
-  more-represents : ltb 1000000 (total es + v) ≡ false → Represents (withFuel (blendOf es) (quarters a) v) (es ++ (entry a v ∷ []))
-  more-represents n = record { is = more-is; fit = subst Within more-is (more-fits (ltb-false 1000000 (total es + v) n)) }
+  more-represents : AllAdmitted (es ++ (entry a v ∷ [])) → ltb 1000000 (total es + v) ≡ false →
+      Represents (withFuel (blendOf es) (quarters a) v) (es ++ (entry a v ∷ []))
+  more-represents g n = record { is = more-is; fit = subst Within more-is (more-fits (ltb-false 1000000 (total es + v) n)); fuels = g }
 
 adds-alike : (b : Blend) (es : Entries) → Represents b es → (f : Fuel) (v : ℕ) → Alike Represents (adding b f v) (modelAdds es f v)
 unfolding adding taking modelAdds
@@ -58,8 +60,9 @@ adds-alike b es h f v = go (admitting f) refl
     go : (o : Outcome Atoms) → admitting f ≡ o → Alike Represents (adding b f v) (modelAdds es f v)
     go (refused r) e = rw (h .is, within-test (blendOf es) (h .fit), e) refusing
     go (answered a) e =
+        let fuels = append-admitted es (entry a v ∷ []) (h .fuels) (one-admitted f a v e) in
         rw (h .is, within-test (blendOf es) (h .fit), e)
-        (refuse-alike totalTooLarge 0 (ltb 1000000 (total es + v)) (λ n. answering (more-represents es (h .fit) a (admitted-fuel f a e) v n)))
+        (refuse-alike totalTooLarge 0 (ltb 1000000 (total es + v)) (λ n. answering (more-represents es (h .fit) a (admitted-fuel f a e) v fuels n)))
 
 -- JOINING
 module _ (es fs : Entries) (w : Within (blendOf es)) (x : Within (blendOf fs)) where
@@ -69,14 +72,16 @@ module _ (es fs : Entries) (w : Within (blendOf es)) (x : Within (blendOf fs)) w
   both-fit : total es + total fs ≤ 1000000 → Within (together (blendOf es) (blendOf fs))
   both-fit m = omega arith
 
-  both-represent : ltb 1000000 (total es + total fs) ≡ false → Represents (together (blendOf es) (blendOf fs)) (es ++ fs)
-  both-represent n = record { is = both-is; fit = subst Within both-is (both-fit (ltb-false 1000000 (total es + total fs) n)) }
+  both-represent : AllAdmitted (es ++ fs) → ltb 1000000 (total es + total fs) ≡ false →
+      Represents (together (blendOf es) (blendOf fs)) (es ++ fs)
+  both-represent g n = record { is = both-is; fit = subst Within both-is (both-fit (ltb-false 1000000 (total es + total fs) n)); fuels = g }
 
 joins-alike : (b c : Blend) (es fs : Entries) → Represents b es → Represents c fs → Alike Represents (joining b c) (modelJoins es fs)
 unfolding joining modelJoins
 joins-alike b c es fs h k =
+    let fuels = append-admitted es fs (h .fuels) (k .fuels) in
     rw (h .is, k .is, within-test (blendOf es) (h .fit), within-test (blendOf fs) (k .fit))
-    (refuse-alike totalTooLarge 0 (ltb 1000000 (total es + total fs)) (λ n. answering (both-represent es fs (h .fit) (k .fit) n)))
+    (refuse-alike totalTooLarge 0 (ltb 1000000 (total es + total fs)) (λ n. answering (both-represent es fs (h .fit) (k .fit) fuels n)))
 
 -- ASKING
 tells-alike : (es : Entries) → 0 < total es → (q : Question) → telling (blendOf es) q ≡ modelTells es q
@@ -110,3 +115,6 @@ module _ (calls : List Call) where
 
   pub in-bounds : (i : ℕ) → within (blends calls i) ≡ true
   in-bounds i = rw (represents i .is) (within-test (blendOf (entries calls i)) (represents i .fit))
+
+  pub all-admitted : (i : ℕ) → AllAdmitted (entries calls i)
+  all-admitted i = represents i .fuels

@@ -6,14 +6,14 @@ use Prim.Native.Nat.{ℕ, _+_, _*_, _≤_, _<_}
 use lib.Dec.{ltb}
 use lib.IntN.{natAbs}
 use Rattle.answer.specs.Outcome.{Outcome, refused, answered}
-use Rattle.rounding.specs.Fraction.{Fraction, whole, _⊠_, _⊑_, figure}
+use Rattle.rounding.specs.Fraction.{Fraction, _⊑_}
 use Rattle.elements.specs.declared.Atoms.{Atoms}
 use Rattle.blend.specs.Limit.{lower, upper}
 use Rattle.blend.specs.declared.Blend.{Blend}
 use Rattle.blend.specs.Temperature.{meant}
-use Rattle.blend.specs.Fuel.{Fuel, admitting}
+use Rattle.blend.specs.Fuel.{Fuel, counts, admitting}
 use Rattle.blend.specs.Blend.{emptyBlend, within, adding, joining, Question, limits, Told, asking}
-use Rattle.blend.specs.Calls.{Call, add, join, Answer, done, told, declined, Keeper, answerTo, answers, after}
+use Rattle.blend.specs.Calls.{Call, add, join, ask, Answer, done, told, declined, Keeper, answerTo, next as nextStates, answers, after}
 use Rattle.blend.specs.Model.{Entry, entry, Entries, total, limitAt, modelAsks, model}
 
 -- the blends, by the definitions that the promises cite
@@ -55,25 +55,31 @@ admitted f = hasAtoms (admitting f)
 abbrev pub alone : Entry → Entries
 alone e = entry (e .fuel) 1 ∷ []
 
--- of a quantity of entries, whose figure in hundredths is x: some fuel with parts above zero has alone at most that of all, and some one at least that,
--- exact and as answered
-pub record Between (quantity : Entries → Fraction) (es : Entries) (x : ℕ) : Type 0 where
+-- one of some entries, with parts above zero: its fuel is admitted, and the question of that fuel alone is answered with x
+pub record AnswersAlone (es : Entries) (q : Question) (e : Entry) (x : Told q) : Type 0 where
+  pub taken : List·Memᴰ e es
+  pub present : 0 < e .parts
+  pub fuel-admitted : admitting (counts (e .fuel)) ≡ answered (e .fuel)
+  pub answers : modelAsks (alone e) q ≡ answered x
+
+-- of a quantity of the entries, and its figure in their answer x to a question: the fuel of low has alone at most these, and that of high at least these
+pub record Between (q : Question) (quantity : Entries → Fraction) (figureIn : Told q → ℕ) (es : Entries) (x : Told q) : Type 0 where
   pub low : Entry
-  pub low-taken : List·Memᴰ low es
-  pub low-present : 0 < low .parts
+  pub low-told : Told q
+  pub low-alone : AnswersAlone es q low low-told
   pub above-exact : quantity (alone low) ⊑ quantity es
-  pub above : figure (whole 100 ⊠ quantity (alone low)) ≤ x
+  pub above : figureIn low-told ≤ figureIn x
   pub high : Entry
-  pub high-taken : List·Memᴰ high es
-  pub high-present : 0 < high .parts
+  pub high-told : Told q
+  pub high-alone : AnswersAlone es q high high-told
   pub below-exact : quantity es ⊑ quantity (alone high)
-  pub below : x ≤ figure (whole 100 ⊠ quantity (alone high))
+  pub below : figureIn x ≤ figureIn high-told
 
 -- of what a question is answered with
 abbrev pub BetweenAlone : (q : Question) → Entries → Told q → Type 0
 BetweenAlone (limits t) es l =
-    Between (λ fs. limitAt lower fs (natAbs (meant t))) es (l .lower)
-    × Between (λ fs. limitAt upper fs (natAbs (meant t))) es (l .upper)
+    Between (limits t) (λ fs. limitAt lower fs (natAbs (meant t))) (λ m. m .lower) es l
+    × Between (limits t) (λ fs. limitAt upper fs (natAbs (meant t))) (λ m. m .upper) es l
 
 -- MULTIPLIED. All parts times k.
 unfoldable pub scaled : ℕ → Entries → Entries
@@ -84,23 +90,40 @@ pub data Without (j : ℕ) : List ℕ → List ℕ → Type 0 where
   here : {rest : List ℕ} → Without j (j ∷ rest) rest
   there : {i : ℕ} {bs rest : List ℕ} → Without j bs rest → Without j (i ∷ bs) (i ∷ rest)
 
--- all blends of a list are different
+-- i does not stand in a list
 unfoldable pub Absent : ℕ → List ℕ → Type 0
 Absent i [] = Unit {0}
 Absent i (j ∷ bs) = (i ≡ j → ⊥) × Absent i bs
 
+-- all blends of a list are different
 unfoldable pub Different : List ℕ → Type 0
 Different [] = Unit {0}
 Different (i ∷ bs) = Absent i bs × Different bs
 
+-- a call beside a route, bs the blends that still take part: any question; an adding to none of them; a joining of any blend into none of them
+unfoldable pub Beside : List ℕ → Call → Type 0
+Beside bs (add i f v) = Absent i bs
+Beside bs (join i j) = Absent i bs
+Beside bs (ask i q) = Unit {0}
+
 -- A route over some blends: admitted fuels are added to blends that still take part, and two different ones of those are joined,
--- after which the second takes no part, until one, w, is left. The entries are listed in the order in which they are added.
+-- after which the second takes no part, until one, w, is left. Calls beside it may stand anywhere among these, its own.
+-- The entries are listed in the order in which they are added.
 pub data Route (w : ℕ) : List ℕ → Entries → List Call → Type 0 where
   left : Route w (w ∷ []) [] []
   adds : {i : ℕ} {f : Fuel} {a : Atoms} {v : ℕ} {bs : List ℕ} {es : Entries} {cs : List Call} →
       List·Memᴰ i bs → admitting f ≡ answered a → Route w bs es cs → Route w bs (entry a v ∷ es) (add i f v ∷ cs)
   joins : {i j : ℕ} {bs rest : List ℕ} {es : Entries} {cs : List Call} →
       Without j bs rest → List·Memᴰ i rest → Route w rest es cs → Route w bs es (join i j ∷ cs)
+  besides : {c : Call} {bs : List ℕ} {es : Entries} {cs : List Call} → Beside bs c → Route w bs es cs → Route w bs es (c ∷ cs)
+
+-- of the answers to all calls, those to the route's own addings and joinings
+unfoldable pub ownAnswers : {w : ℕ} {bs : List ℕ} {es : Entries} {cs : List Call} → Route w bs es cs → List Answer → List Answer
+ownAnswers r [] = []
+ownAnswers left (a ∷ rest) = []
+ownAnswers (adds m e r) (a ∷ rest) = a ∷ ownAnswers r rest
+ownAnswers (joins o m r) (a ∷ rest) = a ∷ ownAnswers r rest
+ownAnswers (besides b r) (a ∷ rest) = ownAnswers r rest
 
 -- THE CLAIM
 pub record Claims (calls : List Call) : Type 0 where
@@ -115,14 +138,17 @@ pub record Claims (calls : List Call) : Type 0 where
   -- that 28 never arises
   pub by-entries : (i : ℕ) (q : Question) → asking (blends calls i) q ≡ modelAsks (entries calls i) q
   pub in-bounds : (i : ℕ) → within (blends calls i) ≡ true
-  -- each figure lies between the smallest and the largest that the fuels with parts above zero have alone
+  -- parts 0 change nothing: every blend stays the same, whatever the fuel
+  pub zero-parts : (i : ℕ) (f : Fuel) (j : ℕ) → nextStates keeper (blends calls) (add i f 0) j ≡ blends calls j
+  -- each figure lies between the smallest and the largest that the fuels with parts above zero have alone, unrounded and as answered
   pub between : (i : ℕ) (q : Question) (x : Told q) → asking (blends calls i) q ≡ Outcome.answered x → BetweenAlone q (entries calls i) x
   -- blends of one list or of two that took in the same entries, in any order, answer alike
   pub alike : (others : List Call) (i j : ℕ) → List·Permᴰ (entries calls i) (entries others j) → (q : Question) → asking (blends calls i) q ≡ asking (blends others j) q
   -- also when all parts of one are multiplied by a whole factor above zero
   pub multiplied : (others : List Call) (i j k : ℕ) → 0 < k → List·Permᴰ (entries calls i) (scaled k (entries others j)) →
       (q : Question) → asking (blends calls i) q ≡ asking (blends others j) q
-  -- every route for some entries, each added once in any order, is refused somewhere exactly when they total more than 1,000,000;
-  -- and if not, the blend that is left answers as all of them
-  pub routes : (all : Entries) (bs : List ℕ) (es : Entries) (w : ℕ) → Different bs → Route w bs es calls → List·Permᴰ all es →
-      (refusedSomewhere (blendAnswers calls) ≡ ltb 1000000 (total all)) × (total all ≤ 1000000 → (q : Question) → asking (blends calls w) q ≡ modelAsks all q)
+  -- on every route for some entries, each added once in any order, one of its own addings and joinings is refused exactly when the entries total
+  -- more than 1,000,000, whatever the calls beside it, refused or not; and if they do not, the blend that is left answers as all of them
+  pub routes : (all : Entries) (bs : List ℕ) (es : Entries) (w : ℕ) → Different bs → (r : Route w bs es calls) → List·Permᴰ all es →
+      (refusedSomewhere (ownAnswers r (blendAnswers calls)) ≡ ltb 1000000 (total all))
+      × (total all ≤ 1000000 → (q : Question) → asking (blends calls w) q ≡ modelAsks all q)

@@ -134,10 +134,7 @@ fn changed(blend: Blend) -> Blended
     ensures { λ r. ⌜ ((b : Blend) → r ≡ shownBlend b (answered blend)) ⌝ }
 {
     Blended {
-        refusal: Refusal {
-            number: 0,
-            place: 0,
-        },
+        refusal: answer::NOT_REFUSED,
         blend,
     }
 }
@@ -202,10 +199,7 @@ fn limits_from(b: Blend, t: u64) -> Limits
     ensures { λ r. ⌜ r ≡ shownLimits (answered (limitsAt b t)) ⌝ }
 {
     Limits {
-        refusal: Refusal {
-            number: 0,
-            place: 0,
-        },
+        refusal: answer::NOT_REFUSED,
         lower: rated(25000, b.total, 127700 - t, 313, b.lower),
         upper: rated(50000, b.total, t + 78700, 203, b.upper),
     }

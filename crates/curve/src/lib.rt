@@ -157,10 +157,7 @@ pub fn check_curve(temperatures: &[i64], pressures: &[u64]) -> Refusal
         }
         i += 1;
     }
-    Refusal {
-        number: 0,
-        place: 0,
-    }
+    answer::NOT_REFUSED
 }
 
 // The pressure at t on a segment, rounded down.

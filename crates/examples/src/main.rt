@@ -48,12 +48,10 @@ fn show_read(text: &[u8]) {
         return;
     }
     let atoms = read.atoms;
-    let mut out = [0u8; 64];
+    let mut out = [0u8; 43];
     let written = hill::write_formula(atoms, &mut out);
     let length = written.length as usize;
-    if length <= 64 {
-        show(&out[..length]);
-    }
+    show(&out[..length]);
     show(b"\n");
 }
 

@@ -24,13 +24,13 @@ use Rattle.formula.proofs.Unfold.{item-other, item-open, then-ends, the
 
 -- t goes on with neither a digit nor a small letter
 pub record Next (t : List ℕ) : Type 0 where
-  pub digitless : digitFrom 48 (at t 0) ≡ false
+  pub digitless : digitFrom 0 (at t 0) ≡ false
   pub capital : at t 0 < 97
 
 -- as it does at the end of the text or of a group
 ends-next : (t : List ℕ) → ends t ≡ true → Next t
-ends-next [] e = record { digitless = digit-below 48 0 (omega arith); capital = omega arith }
-ends-next (b ∷ t) e = let q = eqb-true b 41 e in record { digitless = digit-below 48 b (omega arith); capital = omega arith }
+ends-next [] e = record { digitless = digit-below 0 0 (omega arith); capital = omega arith }
+ends-next (b ∷ t) e = let q = eqb-true b 41 e in record { digitless = digit-below 0 b (omega arith); capital = omega arith }
 
 -- and where a formula begins: with a capital letter or a bracket
 pub record Begin (t : List ℕ) : Type 0 where
@@ -38,7 +38,7 @@ pub record Begin (t : List ℕ) : Type 0 where
   pub goes : ends t ≡ false
 
 letter-begins : (a : ℕ) (t : List ℕ) → 65 ≤ a → a ≤ 90 → Begin (a ∷ t)
-letter-begins a t l h = record { next = record { digitless = digit-above 48 a (omega arith); capital = omega arith }; goes = ne-eqb a 41 (λ q. omega arith) }
+letter-begins a t l h = record { next = record { digitless = digit-above 0 a (omega arith); capital = omega arith }; goes = ne-eqb a 41 (λ q. omega arith) }
 
 letters-begin : (w t : List ℕ) → Letters w → Begin (w ++ t)
 letters-begin w t (one-letter a l h) = letter-begins a t l h
@@ -46,7 +46,7 @@ letters-begin w t (two-letters a b l h k) = letter-begins a (b ∷ t) l h
 
 begin-item : {d : ℕ} (i : Item d) (r : List ℕ) → Begin (itemText i ++ r)
 begin-item (element e n) r = rw append-assoc (letters-begin (symbol e) (digits n ++ r) (letters e))
-begin-item (group f n) r = record { next = record { digitless = digit-below 48 40 (omega arith); capital = omega arith }; goes = refl }
+begin-item (group f n) r = record { next = record { digitless = digit-below 0 40 (omega arith); capital = omega arith }; goes = refl }
 
 begin : {d : ℕ} (f : Formula d) (r : List ℕ) → Begin (text f ++ r)
 begin (last i) r = begin-item i r

@@ -49,9 +49,9 @@ digit b = b - byte "0"
 
 unfoldable pub multipleOf : ℕ → ℕ → ℕ → Multiple
 multipleOf a b c =
-    cond (digitFrom (byte "1") a)
-    (cond (digitFrom (byte "0") b)
-    (cond (digitFrom (byte "0") c)
+    cond (digitFrom 1 a)
+    (cond (digitFrom 0 b)
+    (cond (digitFrom 0 c)
     (multiple ((digit a * 10 + digit b) * 10 + digit c) 3)
     (multiple (digit a * 10 + digit b) 2))
     (multiple (digit a) 1))

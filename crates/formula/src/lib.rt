@@ -95,15 +95,15 @@ fn symbol_of(b: u8, c: u8) -> Spelling
 fn multiple_of(a: u8, b: u8, c: u8) -> Multiple
     ensures { λ r. ⌜ r ≡ multipleOf a b c ⌝ }
 {
-    if !is_digit_from(b'1', a) {
+    if !is_digit_from(1, a) {
         return Multiple { value: 1, size: 0 };
     }
     let x = (a - b'0') as u64;
-    if !is_digit_from(b'0', b) {
+    if !is_digit_from(0, b) {
         return Multiple { value: x, size: 1 };
     }
     let y = x * 10 + (b - b'0') as u64;
-    if !is_digit_from(b'0', c) {
+    if !is_digit_from(0, c) {
         return Multiple { value: y, size: 2 };
     }
     Multiple {
@@ -267,10 +267,7 @@ fn judge(atoms: Atoms) -> FormulaRead
         return refused_formula(answer::COUNT_TOO_LARGE, over);
     }
     FormulaRead {
-        refusal: Refusal {
-            number: 0,
-            place: 0,
-        },
+        refusal: answer::NOT_REFUSED,
         atoms,
     }
 }

@@ -1,5 +1,5 @@
 -- The Hill system: carbon, hydrogen, the rest by symbol; without carbon all by symbol; count 1 unwritten (document 01, "Formula text").
-use mathlib.Core.Path.{_≡_, refl}
+use mathlib.Core.Path.{_≡_}
 use mathlib.Core.Bool.{Bool, true, false, cond, _&&_, _||_}
 use mathlib.Core.List.{List, [], _∷_, _++_, map}
 use Prim.Native.Nat.{ℕ, zero, suc}
@@ -38,16 +38,24 @@ joined (t ∷ ts) = t ++ joined ts
 unfoldable pub hillText : Atoms → List ℕ
 hillText a = joined (map (λ e. hillItem e (count a e)) (hillOrder a))
 
--- bySymbol is in the order of the symbols' bytes: each is below the next
+-- THE ORDER BY SYMBOL. A text is below another by the bytes where they first differ, and below each that it begins.
 abbrev pub below : List ℕ → List ℕ → Bool
 below s [] = false
 below [] (b ∷ t) = true
 below (a ∷ s) (b ∷ t) = ltb a b || (eqb a b && below s t)
 
+-- each symbol is below the next
 abbrev pub rising : List Element → Bool
 rising [] = true
 rising (e ∷ []) = true
 rising (e ∷ f ∷ es) = below (symbol e) (symbol f) && rising (f ∷ es)
 
-pub by-symbol-rises : rising bySymbol ≡ true
-by-symbol-rises = refl
+-- x is one of the elements
+abbrev pub has : List Element → Element → Bool
+has [] x = false
+has (e ∷ es) x = eqb (number x) (number e) || has es x
+
+-- what makes bySymbol the list of all elements by symbol
+pub record BySymbol : Type 0 where
+  pub rises : rising bySymbol ≡ true
+  pub every : (x : Element) → has bySymbol x ≡ true

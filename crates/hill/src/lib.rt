@@ -5,10 +5,10 @@ ghost use lib.ListN.{length, take};
 ghost use Rattle.answer.specs.Outcome.{refused, refusal};
 ghost use Rattle.text.specs.Reader.{at};
 ghost use Rattle.text.specs.Room.{putAt, behind};
-ghost use Rattle.text.specs.Writing.{shownLength};
+ghost use Rattle.text.specs.Writing.{shownLength, Longest};
 ghost use Rattle.text.specs.Internal.{Puts};
 ghost use Rattle.elements.specs.Internal.{AtMost200};
-ghost use Rattle.hill.specs.Hill.{hillOrder, hillItem, hillText};
+ghost use Rattle.hill.specs.Hill.{hillOrder, hillItem, hillText, BySymbol};
 ghost use Rattle.elements.specs.Elements.{symbol};
 ghost use Rattle.hill.specs.Writing.{formulaWritten, roomAfter};
 ghost use Rattle.hill.specs.RoundTrip.{RoundTrip};
@@ -126,18 +126,18 @@ fn put_item(out: &mut [u8], at: usize, e: Element, n: u64) -> usize
 
 // A text, at the start of the array.
 struct Line {
-    bytes: [u8; 64],
+    bytes: [u8; 43],
     length: usize,
 }
 
 // The Hill text of counts of at most 200.
 fn hill_line(atoms: Atoms) -> Line
     requires { ⌜ AtMost200 atoms ⌝ }
-    ensures { λ r. ⌜ (length (r .bytes) ≡ 64) × (r .length ≤ 64) × (take (r .length) (r .bytes) ≡ hillText atoms) ⌝ }
+    ensures { λ r. ⌜ (length (r .bytes) ≡ 43) × (r .length ≤ 43) × (take (r .length) (r .bytes) ≡ hillText atoms) ⌝ }
 {
     let counts = atoms.count;
     let order = hill_order(atoms);
-    let mut bytes = [0u8; 64];
+    let mut bytes = [0u8; 43];
     let mut at = 0;
     let mut i = 0;
     while i < 10 {
@@ -164,6 +164,8 @@ pub fn write_formula(atoms: Atoms, out: &mut [u8]) -> Written
     ensures { λ r. ⌜ r ≡ formulaWritten atoms (now (out .entry)) ⌝ }
     ensures room { λ r. ⌜ now (out .exit) ≡ roomAfter atoms (now (out .entry)) ⌝ }
     ensures round_trip { λ _. ⌜ RoundTrip ⌝ }
+    ensures longest { λ r. ⌜ Longest 43 (now (out .entry)) r ⌝ }
+    ensures by_symbol { λ _. ⌜ BySymbol ⌝ }
 {
     if is_empty(atoms) {
         return refused_text(answer::NO_FORMULA, 0);

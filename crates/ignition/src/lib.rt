@@ -42,10 +42,7 @@ fn asked_for(condition: Condition) -> Asked
     ensures { λ r. ⌜ r ≡ shownCondition (answered condition) ⌝ }
 {
     Asked {
-        refusal: Refusal {
-            number: 0,
-            place: 0,
-        },
+        refusal: answer::NOT_REFUSED,
         condition,
     }
 }

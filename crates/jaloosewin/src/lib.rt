@@ -5,6 +5,8 @@ ghost use mathlib.Core.Option.{some, none};
 ghost use Prim.Native.Nat.{_≤_};
 ghost use Rattle.answer.specs.Outcome.{shownFigure};
 ghost use Rattle.formula.specs.Reading.{formulaRead, ByGrammar, ofText};
+ghost use Rattle.text.specs.Writing.{Longest};
+ghost use Rattle.hill.specs.Hill.{BySymbol};
 ghost use Rattle.hill.specs.Writing.{formulaWritten, roomAfter};
 ghost use Rattle.hill.specs.RoundTrip.{RoundTrip};
 ghost use Rattle.oxygen.specs.Admission.{oxygenCoefficient};
@@ -51,6 +53,8 @@ pub extern "C" fn jlw_write_formula(
     ensures { λ r. ⌜ r ≡ formulaWritten (record { count = c ∷ h ∷ o ∷ n ∷ s ∷ p ∷ f ∷ cl ∷ br ∷ si ∷ [] }) (now (out .entry)) ⌝ }
     ensures room { λ r. ⌜ now (out .exit) ≡ roomAfter (record { count = c ∷ h ∷ o ∷ n ∷ s ∷ p ∷ f ∷ cl ∷ br ∷ si ∷ [] }) (now (out .entry)) ⌝ }
     ensures round_trip { λ _. ⌜ RoundTrip ⌝ }
+    ensures longest { λ r. ⌜ Longest 43 (now (out .entry)) r ⌝ }
+    ensures by_symbol { λ _. ⌜ BySymbol ⌝ }
 {
     hill::write_formula(
         Atoms {

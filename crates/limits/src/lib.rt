@@ -7,7 +7,6 @@ ghost use Rattle.blend.specs.Blend.{shownLimits};
 ghost use Rattle.limits.specs.FuelLimits.{fuelLimits, AsBlend};
 ghost use Rattle.limits.specs.Concentration.{massConcentration};
 ghost use Rattle.limits.specs.Internal.{rate};
-use answer::Refusal;
 use blend::Limits;
 use blend::USUAL_TEMPERATURE;
 use blend::add_fuel;
@@ -63,10 +62,7 @@ pub fn mass_concentration(fuel: Atoms, temperature: i64) -> Limits
     let mass = molar_mass(fuel);
     let t = size(temperature);
     Limits {
-        refusal: Refusal {
-            number: 0,
-            place: 0,
-        },
+        refusal: answer::NOT_REFUSED,
         lower: rate_of(mass, t, limits.lower),
         upper: rate_of(mass, t, limits.upper),
     }

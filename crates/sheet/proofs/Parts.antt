@@ -19,7 +19,7 @@ use Rattle.csv.proofs.Fields.{all-here}
 use Rattle.sheet.specs.Mixture.{isParts, spelledFrom}
 
 abbrev pub digits : List ℕ → Bool
-digits s = all (digitFrom (byte "0")) s
+digits s = all (digitFrom 0) s
 
 module _ (s : List ℕ) where
   pub parts-other : digits s ≡ false → false ≡ isParts s
@@ -72,14 +72,14 @@ module _ (s : List ℕ) (i n : ℕ) (h : Spelling s i n) where
 
   module _ (l : i < length s) where
     pub spelling-digit : (byte "0" ≤ getD s i 0) × (getD s i 0 ≤ byte "9")
-    spelling-digit = digit-bounds (byte "0") (getD s i 0) (all-here (digitFrom (byte "0")) s i l (h .rest) .0)
+    spelling-digit = digit-bounds 0 (getD s i 0) (all-here (digitFrom 0) s i l (h .rest) .0)
 
     pub spelling-more : Spelling s (i + 1) (10 * n + (getD s i 0 - byte "0"))
     unfolding spelledFrom
     spelling-more = record {
       within = omega arith;
       short = h .short;
-      rest = all-here (digitFrom (byte "0")) s i l (h .rest) .1;
+      rest = all-here (digitFrom 0) s i l (h .rest) .1;
       small = rw (add-one i, pow-suc 10 i) (omega (arith, h .small, spelling-digit));
       spelled = h .spelled ∙ rw (drop-cons s i 0 l, add-one i);
     }

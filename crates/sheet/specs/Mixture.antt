@@ -21,7 +21,7 @@ header = bytes "formula,parts"
 
 -- parts: 1 to 7 digits without leading zero, or `0`
 unfoldable pub isParts : List ℕ → Bool
-isParts p = all (digitFrom (byte "0")) p && ((leb 1 (length p) && leb (length p) 7) && (eqb (length p) 1 || not (eqb (getD p 0 0) (byte "0"))))
+isParts p = all (digitFrom 0) p && ((leb 1 (length p) && leb (length p) 7) && (eqb (length p) 1 || not (eqb (getD p 0 0) (byte "0"))))
 
 -- a record: exactly two fields, the second of them parts
 abbrev pub goodMixture : List ℕ → Bool

@@ -31,11 +31,11 @@ mod report;
 pub use report::write_answer;
 
 fn all_digits(s: &[u8]) -> bool
-    ensures { λ r. ⌜ r ≡ all (digitFrom (byte "0")) (now (s .entry)) ⌝ }
+    ensures { λ r. ⌜ r ≡ all (digitFrom 0) (now (s .entry)) ⌝ }
 {
     let mut i = 0;
     while i < s.len() {
-        if !is_digit_from(b'0', s[i]) {
+        if !is_digit_from(0, s[i]) {
             return false;
         }
         i += 1;
@@ -161,10 +161,7 @@ fn add_records(s: &[u8]) -> Blended
         passed += 1;
     }
     Blended {
-        refusal: Refusal {
-            number: 0,
-            place: 0,
-        },
+        refusal: answer::NOT_REFUSED,
         blend,
     }
 }

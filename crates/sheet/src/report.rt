@@ -2,6 +2,7 @@
 ghost use mathlib.Core.Path.{_≡_};
 ghost use Prim.Native.Nat.{_≤_};
 ghost use lib.ListN.{length, take};
+ghost use Rattle.text.specs.Writing.{Longest};
 ghost use Rattle.text.specs.Internal.{Puts};
 ghost use Rattle.sheet.specs.Answer.{percent, limitsLine, refusalLine, answerLine, answerText, answerWritten, answerRoom};
 use answer::Refusal;
@@ -54,14 +55,14 @@ fn put_answer(out: &mut [u8], at: usize, answer: Limits) -> usize
 
 // A text, at the start of the array.
 struct Report {
-    bytes: [u8; 96],
+    bytes: [u8; 76],
     length: usize,
 }
 
 fn report_of(answer: Limits) -> Report
-    ensures { λ r. ⌜ (length (r .bytes) ≡ 96) × (r .length ≤ 96) × (take (r .length) (r .bytes) ≡ answerText answer) ⌝ }
+    ensures { λ r. ⌜ (length (r .bytes) ≡ 76) × (r .length ≤ 76) × (take (r .length) (r .bytes) ≡ answerText answer) ⌝ }
 {
-    let mut bytes = [0u8; 96];
+    let mut bytes = [0u8; 76];
     let line = put(&mut bytes, 0, b"answer,record,lower,upper\r\n");
     let end = put_answer(&mut bytes, line, answer);
     let length = put(&mut bytes, end, b"\r\n");
@@ -69,10 +70,11 @@ fn report_of(answer: Limits) -> Report
 }
 
 // Writes an answer as text at the start of out, and answers its length; the bytes behind it stay. Refusal 17 where out is too short, which leaves all of
-// out as it was. No answer is longer than 76 bytes.
+// out as it was.
 pub fn write_answer(answer: Limits, out: &mut [u8]) -> Written
     ensures { λ r. ⌜ r ≡ answerWritten answer (now (out .entry)) ⌝ }
     ensures room { λ r. ⌜ now (out .exit) ≡ answerRoom answer (now (out .entry)) ⌝ }
+    ensures longest { λ r. ⌜ Longest 76 (now (out .entry)) r ⌝ }
 {
     let report = report_of(answer);
     let bytes = report.bytes;

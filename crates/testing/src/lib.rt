@@ -3,6 +3,7 @@ ghost use mathlib.Core.Path.{_≡_};
 ghost use mathlib.Core.Option.{some};
 ghost use Prim.Native.Nat.{_≤_};
 ghost use Rattle.answer.specs.Outcome.{shownFigure, shownTemperature};
+ghost use Rattle.text.specs.Writing.{Longest};
 ghost use Rattle.oxygen.specs.Admission.{oxygenCoefficient};
 ghost use Rattle.blend.specs.Fuel.{counts};
 ghost use Rattle.blend.specs.Blend.{adding, shownBlend, shownLimits};
@@ -137,6 +138,7 @@ pub extern "C" fn jlt_write_sheet_answer(
 ) -> Written
     ensures { λ r. ⌜ r ≡ answerWritten (answerOf declined lower upper) (now (out .entry)) ⌝ }
     ensures room { λ r. ⌜ now (out .exit) ≡ answerRoom (answerOf declined lower upper) (now (out .entry)) ⌝ }
+    ensures longest { λ r. ⌜ Longest 76 (now (out .entry)) r ⌝ }
 {
     let answer = Limits {
         refusal: declined,

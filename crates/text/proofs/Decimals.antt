@@ -124,18 +124,18 @@ decimal-length (suc k) n l = go (decLt n 10) (decimal-length k (n / 10))
         rw (decimal-more n (omega arith)) (omega (arith, length-append (decimal (n / 10)) ((48 + n % 10) ∷ [])))
 
 -- BYTES OF DIGITS, as a test and as facts
-pub digit-in : (from b : ℕ) → from ≤ b → b ≤ 57 → digitFrom from b ≡ true
+pub digit-in : (k b : ℕ) → 48 + k ≤ b → b ≤ 57 → digitFrom k b ≡ true
 unfolding digitFrom
-digit-in from b l h = rw (le-leb from b l, le-leb b 57 h)
+digit-in k b l h = rw (le-leb (48 + k) b l, le-leb b 57 h)
 
-pub digit-below : (from b : ℕ) → b < from → digitFrom from b ≡ false
+pub digit-below : (k b : ℕ) → b < 48 + k → digitFrom k b ≡ false
 unfolding digitFrom
-digit-below from b l = rw (lt-leb from b l)
+digit-below k b l = rw (lt-leb (48 + k) b l)
 
-pub digit-above : (from b : ℕ) → 57 < b → digitFrom from b ≡ false
+pub digit-above : (k b : ℕ) → 57 < b → digitFrom k b ≡ false
 unfolding digitFrom
-digit-above from b l = rw (lt-leb b 57 l, and-false (leb from b))
+digit-above k b l = rw (lt-leb b 57 l, and-false (leb (48 + k) b))
 
-pub digit-bounds : (from b : ℕ) → digitFrom from b ≡ true → (from ≤ b) × (b ≤ 57)
+pub digit-bounds : (k b : ℕ) → digitFrom k b ≡ true → (48 + k ≤ b) × (b ≤ 57)
 unfolding digitFrom
-digit-bounds from b e = let h = both (leb from b) (leb b 57) e in (leb-true from b (h .0), leb-true b 57 (h .1))
+digit-bounds k b e = let h = both (leb (48 + k) b) (leb b 57) e in (leb-true (48 + k) b (h .0), leb-true b 57 (h .1))

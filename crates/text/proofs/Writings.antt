@@ -6,9 +6,10 @@ use native.Mathlib.Decide.{decLt}
 use native.Mathlib.Omega.{arith}
 use borrow.Author.Tests.{lt-ltb, le-ltb}
 use lib.ListN.{length}
+use Rattle.answer.specs.Numbers.{noRoom}
 use Rattle.answer.specs.Outcome.{Outcome, refused, answered, refusal}
 use Rattle.text.specs.Room.{putAt}
-use Rattle.text.specs.Writing.{placed, shownLength, holding}
+use Rattle.text.specs.Writing.{placed, shownLength, holding, Longest}
 use Rattle.text.proofs.Rooms.{put-length}
 
 module _ (room t : List ℕ) where
@@ -39,3 +40,15 @@ module _ (room t : List ℕ) where
       go : Dec (length room < length t) → shownLength (placed (length room) t) .length ≤ length room
       go (yes l) = rw (placed-no l) (omega arith)
       go (no l) = rw (placed-yes (omega arith)) (omega arith)
+
+-- how long the text can be: one that is placed, and none where there is another refusal
+module _ (n : ℕ) (room : List ℕ) where
+  pub placed-longest : (t : List ℕ) → length t ≤ n → Longest n room (shownLength (placed (length room) t))
+  placed-longest t l = go (decLt (length room) (length t))
+    where
+      go : Dec (length room < length t) → Longest n room (shownLength (placed (length room) t))
+      go (yes h) = rw (placed-no room t h) (record { most = omega arith; holds = λ k e. omega arith })
+      go (no h) = rw (placed-yes room t (omega arith)) (record { most = l; holds = λ k e. omega arith })
+
+  pub refused-longest : (k p : ℕ) → (k ≡ noRoom → ⊥) → Longest n room (shownLength (refused (refusal k p)))
+  refused-longest k p other = record { most = omega arith; holds = λ l e. other e }

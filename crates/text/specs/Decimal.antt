@@ -14,6 +14,6 @@ decimalBy (suc k) n = elim (ltb n 10) [ true ↦ (byte "0" + n) ∷ [] | false �
 unfoldable pub decimal : ℕ → List ℕ
 decimal n = decimalBy (suc n) n
 
--- b is a byte from the byte `from` on to that of 9: from that of 0 on any digit, from that of 1 on one that is not 0
+-- b is the byte of a digit that is not below k: with 0 of any digit, with 1 of one that is not 0
 unfoldable pub digitFrom : ℕ → ℕ → Bool
-digitFrom from b = leb from b && leb b (byte "9")
+digitFrom k b = leb (byte "0" + k) b && leb b (byte "9")

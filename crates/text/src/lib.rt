@@ -22,11 +22,14 @@ pub fn byte_at(s: &[u8], at: usize) -> u8
     if at < s.len() { s[at] } else { 0 }
 }
 
-// Whether b is the byte of a decimal digit that is not below the byte `from`.
+// Whether b is the byte of a decimal digit that is not below `from`.
 pub fn is_digit_from(from: u8, b: u8) -> bool
     ensures { λ r. ⌜ r ≡ digitFrom from b ⌝ }
 {
-    if b < from {
+    if b < b'0' {
+        return false;
+    }
+    if b - b'0' < from {
         return false;
     }
     b <= b'9'
@@ -75,10 +78,7 @@ pub fn write_whole(out: &mut [u8], s: &[u8]) -> Written
     }
     copy(out, 0, s);
     Written {
-        refusal: Refusal {
-            number: 0,
-            place: 0,
-        },
+        refusal: answer::NOT_REFUSED,
         length: s.len() as u64,
     }
 }

@@ -2,7 +2,7 @@
 use mathlib.Core.Path.{_≡_}
 use mathlib.Core.List.{List, [], _∷_, map}
 use mathlib.Core.Bool.{cond}
-use mathlib.Core.Option.{some}
+use mathlib.Core.Option.{some, none}
 use Prim.Native.Nat.{ℕ, zero, suc}
 use Prim.Native.String.{String}
 use lib.Dec.{eqb}
@@ -11,6 +11,7 @@ use Rattle.answer.specs.Outcome.{Outcome, refused, answered}
 use Rattle.text.specs.Bytes.{bytes}
 use Rattle.elements.specs.declared.Atoms.{Atoms}
 use Rattle.formula.specs.Reading.{reading, ofText}
+use Rattle.oxygen.specs.Admission.{oxygenCoefficient}
 use Rattle.oxygen.specs.Stoichiometric.{stoichiometricFraction}
 use Rattle.blend.specs.Limit.{fitTemperature}
 use Rattle.blend.specs.Blend.{LimitPair}
@@ -25,11 +26,14 @@ use Rattle.ignition.specs.Questions.{lowerTemperatureLimit, flashByCurve}
 pub data Case : Type 0 where
   -- the atom counts
   formula : String → Case
+  -- β, in quarters
+  coefficient : String → Case
   -- the stoichiometric fraction, document 01's share
   fraction : String → Case
-  -- both limits at the temperature of their formulas' fit, and at another
+  -- both limits at the temperature of their formulas' fit, at another, and without a temperature
   limits : String → Case
   limitsAt : String → ℕ → Case
+  limitsUsual : String → Case
   -- the mass concentrations at both limits
   concentrations : String → ℕ → Case
   -- the flash or fire point: the method, the bonds by kind and count, the boiling point
@@ -38,7 +42,7 @@ pub data Case : Type 0 where
   lowerTemperature : String → Case
   flashOnCurve : ℕ → String → ℕ → Case
 
--- what is printed: a refusal's number and place; the counts of C H O N S P F Cl Br Si; figures in hundredths; or hundredths of a degree
+-- what is printed: a refusal's number and place; the counts of C H O N S P F Cl Br Si; figures in hundredths, β in quarters; or hundredths of a degree
 pub data Printed : Type 0 where
   refusal : (number place : ℕ) → Printed
   counts : List ℕ → Printed
@@ -70,9 +74,11 @@ workedCurve = curve (pos 0 ∷ pos 1000 ∷ pos 2000 ∷ []) (1000 ∷ 2000 ∷ 
 
 abbrev pub answer : Case → Printed
 answer (formula t) = printedBy (λ (a : Atoms). counts (a .count)) (reading (bytes t))
+answer (coefficient t) = printedBy (λ (n : ℕ). figures (n ∷ [])) (ofText oxygenCoefficient (bytes t))
 answer (fraction t) = printedBy (λ (n : ℕ). figures (n ∷ [])) (ofText stoichiometricFraction (bytes t))
 answer (limits t) = printedBy both (ofText (fuelLimits (some fitTemperature)) (bytes t))
 answer (limitsAt t k) = printedBy both (ofText (fuelLimits (some (pos k))) (bytes t))
+answer (limitsUsual t) = printedBy both (ofText (fuelLimits none) (bytes t))
 answer (concentrations t k) = printedBy both (ofText (massConcentration (pos k)) (bytes t))
 answer (flash m t kinds boiling) = printedBy degrees (ofText (λ (a : Atoms). byBonds m a (bondsOf kinds) (pos boiling)) (bytes t))
 answer (lowerTemperature t) = printedBy degrees (ofText (λ (a : Atoms). lowerTemperatureLimit a workedCurve) (bytes t))
@@ -87,9 +93,11 @@ examples =
     record { asked = formula "CH3CH(OH)CH3"; printed = counts (3 ∷ 8 ∷ 1 ∷ 0 ∷ 0 ∷ 0 ∷ 0 ∷ 0 ∷ 0 ∷ 0 ∷ []) }
     ∷ record { asked = formula "c"; printed = refusal 1 0 }
     ∷ record { asked = limits "CH4"; printed = figures (454 ∷ 2732 ∷ []) }
+    ∷ record { asked = limitsUsual "CH4"; printed = figures (454 ∷ 2732 ∷ []) }
     ∷ record { asked = fraction "CH4"; printed = figures (936 ∷ []) }
     ∷ record { asked = limitsAt "CH4" 13400; printed = figures (414 ∷ 3099 ∷ []) }
     ∷ record { asked = concentrations "CH4" 13400; printed = figures (1984 ∷ 14848 ∷ []) }
+    ∷ record { asked = coefficient "C6H6"; printed = figures (30 ∷ []) }
     ∷ record { asked = limits "C6H6"; printed = figures (143 ∷ 821 ∷ []) }
     ∷ record { asked = limits "CO2"; printed = refusal 4 0 }
     ∷ record { asked = flash 1 "C2H5OH" ((1, 1) ∷ (4, 5) ∷ (5, 1) ∷ (18, 1) ∷ []) 7840; printed = degrees (pos 839) }

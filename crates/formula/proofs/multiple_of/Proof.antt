@@ -11,13 +11,13 @@ use Rattle.formula.proofs.multiple_of.Statement.{statement}
 use Rattle.formula.proofs.multiple_of.Tie as tie
 
 -- the digits that were found
-first : (c : tie.Else1) → digitFrom 49 (c .before .before .args .a) ≡ true
+first : (c : tie.Else1) → digitFrom 1 (c .before .before .args .a) ≡ true
 first c = sym (c .before .is-digit-from .ensures) ∙ not-false _ (c .if1 .left)
 
-second : (c : tie.Else2) → digitFrom 48 (c .before .before .before .before .args .b) ≡ true
+second : (c : tie.Else2) → digitFrom 0 (c .before .before .before .before .args .b) ≡ true
 second c = sym (c .before .is-digit-from2 .ensures) ∙ not-false _ (c .if2 .left)
 
-third : (c : tie.Else3) → digitFrom 48 (c .before .before .before .before .before .before .args .c) ≡ true
+third : (c : tie.Else3) → digitFrom 0 (c .before .before .before .before .before .before .args .c) ≡ true
 third c = sym (c .before .is-digit-from3 .ensures) ∙ not-false _ (c .if3 .left)
 
 is-digit-from-requires : tie.Need-is-digit-from-requires

@@ -16,7 +16,7 @@ use Rattle.hill.proofs.hill_line.Statement.{statement}
 use Rattle.hill.proofs.hill_line.Tie as tie
 
 abbrev Inv-loop : tie.InvT-loop
-Inv-loop counts order bytes₀ at₀ i₀ bytes at i = LineOf (record { count = counts }) (replicate 64 0) bytes at i
+Inv-loop counts order bytes₀ at₀ i₀ bytes at i = LineOf (record { count = counts }) (replicate 43 0) bytes at i
 
 abbrev μ-loop : tie.MeasureT-loop
 μ-loop counts order bytes₀ at₀ i₀ bytes at i = 10 - i

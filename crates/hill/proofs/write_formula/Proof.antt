@@ -1,14 +1,17 @@
--- `write_formula` meets its contract: by its tests in their order, and the round trip.
+-- `write_formula` meets its contract: by its tests in their order, and with what is promised of every text.
 use borrow.Author.Needs.{needs}
 use mathlib.Core.Path.{_≡_, refl, sym, _∙_}
 use mathlib.Core.Bool.{false}
 use mathlib.Core.Option.{Option·getD}
 use native.Mathlib.Omega.{arith}
 use lib.ListN.{length-take}
+use Rattle.answer.specs.Numbers.{noFormula, countTooLarge}
 use Rattle.answer.proofs.Lowest.{found-at}
+use Rattle.text.proofs.Writings.{placed-longest, refused-longest}
 use Rattle.elements.specs.Elements.{each, firstAbove, isEmpty}
 use Rattle.elements.proofs.Above.{at-most-200}
 use Rattle.hill.specs.Writing.{writing, formulaWritten, roomAfter}
+use Rattle.hill.proofs.Lines.{by-symbol, hill-short}
 use Rattle.hill.proofs.RoundTrips.{round-trip}
 use Rattle.hill.proofs.write_formula.Statement.{statement}
 use Rattle.hill.proofs.write_formula.Tie as tie
@@ -28,7 +31,10 @@ refused-text-requires c κs = tt
 
 returns : tie.Need-returns
 unfolding writing formulaWritten roomAfter
-returns c = rw (sym (c .before .before .is-empty .ensures) ∙ c .before .if1 .taken) (c .refused-text .ensures, (refl, round-trip))
+returns c =
+    let done = c .refused-text .ensures in
+    rw (sym (c .before .before .is-empty .ensures) ∙ c .before .if1 .taken)
+    (done, (refl, (round-trip, (rw done (refused-longest _ _ noFormula 0 (λ e. omega arith)), by-symbol))))
 
 each-requires : tie.Need-each-requires
 each-requires c κs = tt
@@ -44,7 +50,9 @@ unfolding writing formulaWritten roomAfter
 returns-2 c =
     let f = c .before .before in
     let a = f .before .before .before .before .before .args .atoms in
-    rw (some (f .before .before), found-at (firstAbove (each 200) a) _ (over f) (omega arith)) (c .refused-text2 .ensures, (refl, round-trip))
+    let done = c .refused-text2 .ensures in
+    rw (some (f .before .before), found-at (firstAbove (each 200) a) _ (over f) (omega arith))
+    (done, (refl, (round-trip, (rw done (refused-longest _ _ countTooLarge _ (λ e. omega arith)), by-symbol))))
 
 few : tie.Need-hill-line-requires
 few c κs = at-most-200 _ _ (over (c .before)) (omega arith) .1
@@ -67,8 +75,10 @@ returns-3 c =
     let w = c .before .before in
     let h = w .before .before .before .before in
     let f = h .before .before in
+    let few = at-most-200 _ _ (over f) (omega arith) in
     let done = rw (h .hill-line .ensures .2) at (w .write-whole .ensures) in
-    rw (some (f .before .before), at-most-200 _ _ (over f) (omega arith) .0) (done .0, (done .1, round-trip))
+    rw (some (f .before .before), few .0)
+    (done .0, (done .1, (round-trip, (rw (done .0) (placed-longest _ _ _ (omega (arith, hill-short _ (few .1)))), by-symbol))))
 
 pub write-formula-spec : {M : Type 1} → statement M
 write-formula-spec =

@@ -1,4 +1,5 @@
 -- `jlw_fuel_limits_at` asks of the counts that its text reads to.
+use mathlib.Core.Path.{sym}
 use mathlib.Core.Option.{some}
 use mir.Facts.{toZ-ofZ}
 use Rattle.formula.proofs.Texts.{asked-of-text}
@@ -12,8 +13,9 @@ use Rattle.jaloosewin.proofs.jlw_fuel_limits_at.Tie as tie
 
 returns : tie.Need-returns
 returns c =
-    let l = rw (toZ-ofZ (c .before .before .before .before .before .fits .temperature)) at (c .before .fuel-limits-at .ensures) in
-    let e = c .limits-unless .ensures in (
+    let l = c .before .fuel-limits-at .ensures in
+    let e = c .limits-unless .ensures in
+    rw (sym (toZ-ofZ (c .before .before .before .before .before .fits .temperature))) (
       asked-of-text _ _ (c .before .before .before .read-formula .ensures .0) shownLimits (fuelLimits (some _)) (l .0) e,
       (rw e (unless-most (c .before .before .before .read-formula .result .refusal) (c .before .fuel-limits-at .result) 10000 (l .1 .0)), as-blend (text _) (some _)),
     )

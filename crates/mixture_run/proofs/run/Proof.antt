@@ -1,39 +1,29 @@
--- `run` meets its contract: what is lent to `write_all` lies within the room.
+-- `run` meets its contract: the room holds every answer's text, so that what is lent to `write_output` lies within it.
 use borrow.Author.Needs.{needs}
-use mathlib.Core.Path.{sym}
-use mathlib.Core.List.{List, replicate}
-use Prim.Native.Nat.{ℕ, _≤_}
+use Prim.Native.Nat.{_≤_}
 use native.Mathlib.Omega.{arith}
-use lib.ListN.{length, take}
-use lib.Seq.{length-take-le}
-use Rattle.text.specs.Writing.{placed}
-use Rattle.text.proofs.Writings.{placed-within, holding-length}
-use Rattle.blend.specs.Blend.{shownLimits}
-use Rattle.sheet.specs.Mixture.{sheetAnswer}
-use Rattle.sheet.specs.Answer.{answerText}
+use lib.ListN.{length}
+use Rattle.io.proofs.Counting.{front}
 use Rattle.mixture_run.proofs.run.Statement.{statement}
 use Rattle.mixture_run.proofs.run.Tie as tie
 
-abbrev room : List ℕ
-room = replicate 96 0
-
--- the answer's text is no longer than the room
-within : (c : tie.After-respond) → c .respond .result .length ≤ length (c .respond .last .1 .0)
-within c =
-    let t = answerText (shownLimits (sheetAnswer (take (c .before .before .before .before .read-full .result) (c .before .before .before .before .read-full .last .1 .0)))) in
-    rw (c .respond .ensures .0, c .respond .ensures .1) (omega (arith, placed-within room t, holding-length room t (placed 96 t)))
+within : (c : tie.After-respond) → c .respond .result .length ≤ length (c .respond .last .1 .1 .0)
+within c = let m = c .respond .ensures .1 .1 .most in omega arith
 
 pub run-spec : {M : Type 1} → statement M
 run-spec =
     tie.close
     (tie.spec
     (λ c. search needs)
-    (λ c κs. search needs)
+    (λ c κs. tt)
     (λ c. search needs)
+    (λ c. c .before .before .read-input .ensures .1)
     (λ c. search needs)
-    (λ c. search needs)
-    (λ c κs. search needs)
+    (λ c κs. tt)
     (λ c. within (c .before))
-    (λ c. sym (length-take-le _ _ (within (c .before .before))))
-    (λ c κs. search needs)
-    (λ c. search needs))
+    (λ c. front _ _ (within (c .before .before)))
+    (λ c κs. tt)
+    (λ c. search needs)
+    (λ c κs. tt)
+    (λ c. tt)
+    (λ c. tt))

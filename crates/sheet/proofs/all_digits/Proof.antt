@@ -20,15 +20,15 @@ abbrev μ-loop : tie.MeasureT-loop
 returns : tie.Need-returns Inv-loop μ-loop
 returns c =
     let l = c .before .before .before .before in
-    sym (l .loop .inv ∙ all-stop (digitFrom (byte "0")) (l .before .before .args .s .now) _ (omega arith) (sym (c .before .is-digit-from .ensures) ∙ not-true _ (c .if1 .taken)))
+    sym (l .loop .inv ∙ all-stop (digitFrom 0) (l .before .before .args .s .now) _ (omega arith) (sym (c .before .is-digit-from .ensures) ∙ not-true _ (c .if1 .taken)))
 
 loop-again : tie.Need-loop-again Inv-loop μ-loop
 loop-again c =
     let l = c .before .before .before .before in
-    l .loop .inv ∙ all-more (digitFrom (byte "0")) (l .before .before .args .s .now) _ (omega arith) (sym (c .before .is-digit-from .ensures) ∙ not-false _ (c .if1 .left))
+    l .loop .inv ∙ all-more (digitFrom 0) (l .before .before .args .s .now) _ (omega arith) (sym (c .before .is-digit-from .ensures) ∙ not-false _ (c .if1 .left))
 
 returns-2 : tie.Need-returns-2 Inv-loop μ-loop
-returns-2 c = let l = c .before in sym (l .loop .inv ∙ all-end (digitFrom (byte "0")) (l .before .before .args .s .now) (l .loop .i) (omega arith))
+returns-2 c = let l = c .before in sym (l .loop .inv ∙ all-end (digitFrom 0) (l .before .before .args .s .now) (l .loop .i) (omega arith))
 
 pub all-digits-spec : {M : Type 1} → statement M
 all-digits-spec =

@@ -1,5 +1,6 @@
--- `is_digit_from` meets its contract: the two tests of the definition, one after the other.
+-- `is_digit_from` meets its contract: below the byte of 0, below `from`, and the definition's second test.
 use mathlib.Core.Path.{sym}
+use Prim.Native.Nat.{_+_}
 use native.Mathlib.Omega.{arith}
 use borrow.Author.Tests.{le-leb}
 use Rattle.text.specs.Decimal.{digitFrom}
@@ -11,8 +12,11 @@ returns : tie.Need-returns
 returns c = sym (digit-below _ _ (omega arith))
 
 returns-2 : tie.Need-returns-2
+returns-2 c = sym (digit-below _ _ (omega arith))
+
+returns-3 : tie.Need-returns-3
 unfolding digitFrom
-returns-2 c = rw (le-leb (c .before .args .from) (c .before .args .b) (omega arith))
+returns-3 c = let a = c .before .before .args in rw (le-leb (48 + a .from) (a .b) (omega arith))
 
 pub is-digit-from-spec : {M : Type 1} → statement M
-is-digit-from-spec = tie.close (tie.spec returns returns-2)
+is-digit-from-spec = tie.close (tie.spec returns returns-2 returns-3)

@@ -1,27 +1,17 @@
 -- `report_of` meets its contract: the heading, the answer's line and its CRLF, one behind the other.
 use borrow.Author.Needs.{needs}
-use mathlib.Core.List.{_++_}
 use Prim.Native.Nat.{_≤_}
 use native.Mathlib.Omega.{arith}
-use lib.ListN.{length, length-append}
-use Rattle.text.specs.Bytes.{bytes}
+use lib.ListN.{length}
 use Rattle.text.proofs.Rooms.{puts-one, puts-then, puts-starts}
-use Rattle.sheet.specs.Answer.{answerLine, answerText}
-use Rattle.sheet.proofs.Lengths.{answer-short}
+use Rattle.sheet.specs.Answer.{answerText}
+use Rattle.sheet.proofs.Lengths.{text-short}
 use Rattle.sheet.proofs.report.report_of.Statement.{statement}
 use Rattle.sheet.proofs.report.report_of.Tie as tie
 
--- the answer's line has at most 47 bytes, so that the array holds all
-fits : (c : tie.Start) → length (answerText (c .args .answer)) ≤ 96
-unfolding answerText
-fits c =
-    let line = answerLine (c .args .answer) in
-    omega (
-      arith,
-      answer-short (c .args .answer) (omega arith) (omega arith) (omega arith) (omega arith),
-      length-append (bytes "answer,record,lower,upper\r\n") line,
-      length-append (bytes "answer,record,lower,upper\r\n" ++ line) (bytes "\r\n"),
-    )
+-- the array holds all of the text
+fits : (c : tie.Start) → length (answerText (c .args .answer)) ≤ 76
+fits c = text-short (c .args .answer) (omega arith) (omega arith) (omega arith) (omega arith)
 
 returns : tie.Need-returns
 unfolding answerText
