@@ -1,7 +1,12 @@
 /* Jaloosewin: flammability figures. Numbers are whole; an answer is one struct.
-   In each answer refusal.number is 0 where it was answered; otherwise it is a refusal number of document 01, refusal.place its place,
-   and every other number is 0. A pointer of length 0 may be NULL. Two buffers of one call must not overlap.
-   No function keeps a pointer, and none changes anything but the bytes that it is said to write. */
+
+   In each answer refusal.number is 0 (JLW_NOT_REFUSED) where it was answered. Otherwise it is one of the numbers below, refusal.place says where, as each function
+   tells, 0 if it does not; every other number of the answer is 0, but for a refused adding or joining, which returns the blend as it was given.
+
+   A text is its bytes and their number, which does not count a 0 behind them ("CH4" has 3): the pointer points to at least that many readable bytes, out to at
+   least out_len writable ones. Where the number is 0 nothing is read or written, and the pointer may be NULL. Apart from that every function takes anything.
+   No function keeps a pointer, allocates, or changes anything but the bytes that it is said to write; they may be called from several threads at once.
+   For C11 or C++11 and later; libjaloosewin.a is for x86-64. */
 #ifndef JALOOSEWIN_H
 #define JALOOSEWIN_H
 
@@ -14,6 +19,33 @@ extern "C" {
 #else
 #define JLW_STATIC_ASSERT _Static_assert
 #endif
+
+/* The refusal numbers, and when each is given; 5, 6, 7, 11 to 16 and 18 by no function of this header. */
+enum {
+    JLW_NOT_REFUSED = 0,
+    JLW_NO_FORMULA = 1,               /* the text is no formula, or all counts to be written are 0 */
+    JLW_COUNT_TOO_LARGE = 2,          /* more than 200 atoms of an element, or bonds of a kind */
+    JLW_ELEMENT_NOT_ADMITTED = 3,     /* an element that is not admitted, or carbon missing */
+    JLW_OXYGEN_TOO_LOW = 4,           /* the oxygen coefficient is below 1/2 */
+    JLW_HYDROGEN_DIFFERS = 5,         /* hydrogen atoms and hydrogen bonds differ */
+    JLW_NO_COEFFICIENT = 6,           /* a bond that has no coefficient */
+    JLW_BOILING_POINT_OUTSIDE = 7,    /* boiling point outside -200.00 to 600.00 */
+    JLW_TOTAL_TOO_LARGE = 8,          /* the total of a blend would exceed 1,000,000 */
+    JLW_BLEND_EMPTY = 9,              /* limits of a blend with total 0 */
+    JLW_GAS_TEMPERATURE_OUTSIDE = 10, /* gas temperature outside 0.00 to 200.00 */
+    JLW_BAD_CURVE = 11,               /* a bad vapour curve */
+    JLW_TRUE_AT_FIRST = 12,           /* a condition that holds at the curve's first point */
+    JLW_FALSE_AT_LAST = 13,           /* a condition that does not hold at its last point */
+    JLW_BAD_READING = 14,             /* a bad analyser method or reading */
+    JLW_BAD_SHEET = 15,               /* a bad sheet */
+    JLW_UNKNOWN_METHOD = 16,          /* a method or class number that is not known */
+    JLW_NO_ROOM = 17,                 /* the text is longer than out */
+    JLW_DIFFUSION_OUTSIDE = 18,       /* diffusion coefficient outside 1 to 20,000 */
+    JLW_BLEND_OUT_OF_BOUNDS = 28      /* numbers outside the bounds below */
+};
+
+/* No text of jlw_write_formula is longer: out_len of this is always enough. */
+enum { JLW_LONGEST_FORMULA = 43 };
 
 typedef struct { uint64_t number, place; } jlw_refusal;
 typedef struct { uint64_t count[10]; } jlw_atoms; /* C H O N S P F Cl Br Si */
@@ -39,8 +71,8 @@ JLW_STATIC_ASSERT(sizeof(jlw_blended) == 40 && offsetof(jlw_blended, blend) == 1
    2, more than 200 atoms of an element: place the lowest such element, 1 to 10. */
 jlw_formula jlw_read_formula(const uint8_t *text, size_t text_len);
 
-/* Writes atom counts in Hill order at the start of out and answers the text's length, without a 0 at its end; at most 43 bytes.
-   The bytes of out behind the text stay as they were.
+/* Writes atom counts in Hill order at the start of out and answers the text's length, at most JLW_LONGEST_FORMULA; no 0 is put behind it, and the bytes of out
+   behind the text stay as they were.
    Refusals, which leave every byte of out as it was: 1, all counts are 0; 2, a count above 200: place the lowest such element; 17, out is too short. */
 jlw_written jlw_write_formula(uint64_t c, uint64_t h, uint64_t o, uint64_t n, uint64_t s, uint64_t p, uint64_t f, uint64_t cl, uint64_t br, uint64_t si,
                               uint8_t *out, size_t out_len);
@@ -64,20 +96,26 @@ jlw_limits jlw_fuel_limits_at(const uint8_t *text, size_t text_len, int64_t temp
 /* The mass concentrations of a fuel at both limits in 0.01 g/m3; refusals as for limits at a temperature. */
 jlw_limits jlw_mass_concentration(const uint8_t *text, size_t text_len, int64_t temperature);
 
-/* Blends. A blend goes in as its three numbers and comes back as a struct; with a refusal it comes back as given (of a joining, the first).
-   Refusal 28 comes before all others: a blend whose numbers are out of the bounds that adding and joining from empty blends keep (of a joining, place 1 if only
-   the second is). A blend that began empty and went through these functions alone is never out of bounds. */
+/* Blends. A blend goes in as its three numbers and comes back as a struct; with a refusal it comes back as it was given (of a joining, the first).
+   Refusal 28 comes before all others (of a joining, place 1 if only the second blend is out of bounds): total above 1,000,000, lower outside 9021 * total to
+   2175679 * total, or upper outside 2670 * total to 397108 * total, which are the extremes of admitted fuels.
+   A blend that began empty and went through these functions alone is never out of bounds.
+
+       jlw_blend b = jlw_empty_blend();
+       b = jlw_add_fuel(b.total, b.lower, b.upper, (const uint8_t *)"C3H8", 4, 300000).blend;
+       b = jlw_add_fuel(b.total, b.lower, b.upper, (const uint8_t *)"C2H6", 4, 700000).blend;
+       jlw_limits l = jlw_blend_limits(b.total, b.lower, b.upper);     257 and 1496 */
 
 /* A blend that took in nothing: three zeros. */
 jlw_blend jlw_empty_blend(void);
 
-/* Adds whole parts of a fuel. Refusals: 28, those of the fuel as for limits, 8 where the total would exceed 1,000,000. */
+/* Adds whole parts of a fuel; 0 parts change nothing. Refusals: 28, those of the fuel as for limits, 8 where the total would exceed 1,000,000. */
 jlw_blended jlw_add_fuel(uint64_t total, uint64_t lower, uint64_t upper, const uint8_t *text, size_t text_len, uint64_t parts);
 
 /* Joins a second blend into a first. Refusals: 28, 8. */
 jlw_blended jlw_join_blends(uint64_t total, uint64_t lower, uint64_t upper, uint64_t other_total, uint64_t other_lower, uint64_t other_upper);
 
-/* Both limits of a blend by Le Chatelier's rule over all that it took in, in 0.01 volume percent. No temperature is named, 25.00 is meant.
+/* Both limits of a blend by Le Chatelier's rule over all that it took in, in 0.01 volume percent, each at most 10000. No temperature is named, 25.00 is meant.
    Refusals: 28, 9 where the total is 0. */
 jlw_limits jlw_blend_limits(uint64_t total, uint64_t lower, uint64_t upper);
 

@@ -179,19 +179,22 @@ static void test_write_rooms(void)
 
 static void test_write(void)
 {
+    uint8_t enough[JLW_LONGEST_FORMULA];
+    jlw_written most = jlw_write_formula(200, 200, 200, 200, 200, 200, 200, 200, 200, 200, enough, sizeof enough);
+    CHECK(answered(most.refusal) && most.length == JLW_LONGEST_FORMULA);
+    CHECK(memcmp(enough, "C200H200Br200Cl200F200N200O200P200S200Si200", sizeof enough) == 0);
+    CHECK(is(jlw_write_formula(200, 200, 200, 200, 200, 200, 200, 200, 200, 200, enough, sizeof enough - 1).refusal, JLW_NO_ROOM, 0));
+
     uint8_t out[64];
     memset(out, '.', sizeof out);
-    jlw_written most = jlw_write_formula(200, 200, 200, 200, 200, 200, 200, 200, 200, 200, out, sizeof out);
-    CHECK(answered(most.refusal) && most.length == 43);
-    CHECK(memcmp(out, "C200H200Br200Cl200F200N200O200P200S200Si200.", 44) == 0);
     jlw_written bare = jlw_write_formula(0, 2, 1, 3, 4, 5, 6, 7, 8, 9, out, sizeof out);
     CHECK(answered(bare.refusal) && bare.length == 20 && memcmp(out, "Br8Cl7F6H2N3OP5S4Si9", 20) == 0);
 
     memset(out, '.', sizeof out);
-    CHECK(is(jlw_write_formula(0, 0, 0, 0, 0, 0, 0, 0, 0, 0, out, sizeof out).refusal, 1, 0));
-    CHECK(is(jlw_write_formula(1, 201, 0, 0, 0, 0, 0, 0, 0, UINT64_MAX, out, sizeof out).refusal, 2, 2));
-    CHECK(is(jlw_write_formula(0, 0, 0, 0, 0, 0, 0, 0, 0, UINT64_MAX, NULL, 0).refusal, 2, 10));
-    CHECK(is(jlw_write_formula(1, 0, 0, 0, 0, 0, 0, 0, 0, 0, NULL, 0).refusal, 17, 0));
+    CHECK(is(jlw_write_formula(0, 0, 0, 0, 0, 0, 0, 0, 0, 0, out, sizeof out).refusal, JLW_NO_FORMULA, 0));
+    CHECK(is(jlw_write_formula(1, 201, 0, 0, 0, 0, 0, 0, 0, UINT64_MAX, out, sizeof out).refusal, JLW_COUNT_TOO_LARGE, 2));
+    CHECK(is(jlw_write_formula(0, 0, 0, 0, 0, 0, 0, 0, 0, UINT64_MAX, NULL, 0).refusal, JLW_COUNT_TOO_LARGE, 10));
+    CHECK(is(jlw_write_formula(1, 0, 0, 0, 0, 0, 0, 0, 0, 0, NULL, 0).refusal, JLW_NO_ROOM, 0));
     for (size_t at = 0; at < sizeof out; at++)
         CHECK(out[at] == '.');
 }

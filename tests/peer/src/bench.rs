@@ -1,5 +1,7 @@
 //! Times library and peer on the same inputs, answered ones (an overload is refused), and how the library's cost grows with the length of the input.
+//! Under callgrind it counts the instructions of each side instead, which a busy machine does not change.
 
+use crate::callgrind;
 use crate::curves::Curve;
 use crate::generate::Random;
 use crate::library::{self as lib, Shown, ANSWERED};
@@ -20,7 +22,9 @@ const ROUND: Duration = Duration::from_millis(60);
 const TOLERANCE: f64 = 1.5;
 
 pub fn run() {
-    println!("{:<40}{:>12}{:>12}{:>8}", "", "library ns", "peer ns", "ratio");
+    if !callgrind::is_running() {
+        println!("{:<40}{:>12}{:>12}{:>8}", "", "library ns", "peer ns", "ratio");
+    }
     let random = &mut Random(SEED);
     fuels(random);
     blends(random);
@@ -53,8 +57,23 @@ fn median(mut times: Vec<f64>) -> f64 {
     times[times.len() / 2]
 }
 
+/// One pass through the inputs, counted under the name of the row and the side.
+fn counted<I, A>(name: &str, side: &str, inputs: &[I], call: fn(&I) -> A) {
+    let call = black_box(call);
+    callgrind::count(&format!("{}|{name}|{side}", inputs.len()), || {
+        for input in inputs {
+            black_box(call(black_box(input)));
+        }
+    });
+}
+
 /// One line: both sides over all inputs, called through pointers, in turns. Answers the library's time.
 fn row<I, A: Shown, B>(name: &str, inputs: &[I], library: fn(&I) -> A, peer: fn(&I) -> B) -> f64 {
+    if callgrind::is_running() {
+        counted(name, "library", inputs, library);
+        counted(name, "peer", inputs, peer);
+        return 0.0;
+    }
     let (first, second) = (0..ROUNDS).map(|_| (round(inputs, library), round(inputs, peer))).unzip();
     let (first, second) = (median(first), median(second));
     print!("{name:<40}{first:>12.1}{second:>12.1}{:>8.2}", first / second);
@@ -67,6 +86,9 @@ fn row<I, A: Shown, B>(name: &str, inputs: &[I], library: fn(&I) -> A, peer: fn(
 
 /// Whether the library's time grows no faster than the size, from each size to the next.
 fn growth(unit: &str, sizes: &[(usize, f64)]) -> bool {
+    if callgrind::is_running() {
+        return true;
+    }
     let each = sizes.iter().map(|&(size, time)| format!("{size}: {:.2}", time / size as f64)).collect::<Vec<_>>();
     let good = sizes.windows(2).all(|pair| pair[1].1 / pair[0].1 <= TOLERANCE * pair[1].0 as f64 / pair[0].0 as f64);
     println!("    ns for each {unit} of {}: {}", each.join(", "), if good { "grows no faster" } else { "GROWS FASTER" });

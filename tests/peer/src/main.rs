@@ -1,6 +1,7 @@
 //! `peer compare` compares the library with the peer; `peer bench` times both on the same inputs.
 
 mod bench;
+mod callgrind;
 mod compare;
 mod curves;
 mod fence;
