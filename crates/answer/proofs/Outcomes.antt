@@ -6,7 +6,8 @@ use Prim.Native.Nat.{ℕ, _≤_, _<_}
 use native.Mathlib.Omega.{arith}
 use Rattle.answer.specs.declared.Refusal.{Refusal}
 use Rattle.answer.specs.declared.Figure.{Figure}
-use Rattle.answer.specs.Outcome.{Outcome, refused, answered, refuse, refuseAt, refusalOf, valueOf, andThen, shownFigure, Numbered}
+use Rattle.answer.specs.Outcome.{Outcome, refused, answered, refuse, refuseAt, refusalOf, valueOf, andThen, shownFigure}
+use Rattle.answer.specs.Internal.{Numbered}
 
 module _ {A : Type 0} where
   pub refuse-numbered : (n p : ℕ) (b : Bool) (o : Outcome A) → 0 < n → Numbered o → Numbered (refuse n p b o)

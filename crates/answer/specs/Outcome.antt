@@ -1,7 +1,7 @@
 -- A refusal or an answer, and the chain that document 01's table reads as: one line a refusal, in its order.
 use mathlib.Core.Bool.{Bool, true, false, cond}
 use mathlib.Core.Option.{Option, some, none}
-use Prim.Native.Nat.{ℕ, _<_}
+use Prim.Native.Nat.{ℕ}
 use lib.Dec.{ltb}
 use lib.IntN.{ℤ, pos}
 use Rattle.answer.specs.declared.Refusal.{Refusal}
@@ -50,8 +50,3 @@ shownFigure o = record { refusal = refusalOf o; value = valueOf 0 o }
 
 abbrev pub shownTemperature : Outcome ℤ → Temperature
 shownTemperature o = record { refusal = refusalOf o; value = valueOf (pos 0) o }
-
--- a refusal has a number above 0
-abbrev pub Numbered : {A : Type 0} → Outcome A → Type 0
-Numbered (refused r) = 0 < r .number
-Numbered (answered a) = Unit {0}

@@ -4,7 +4,8 @@ use mathlib.Core.Logic.{⊎-elim}
 use mathlib.Core.List.{[], _∷_, _++_, List·Memᴰ, List·Memᴰ·not-nil, List·Memᴰ·eq-of-singleton, List·Memᴰ·append-cases}
 use Prim.Native.Nat.{ℕ, _≤_}
 use native.Mathlib.Omega.{arith}
-use Rattle.answer.specs.Outcome.{Outcome, refused, answered, valueOf, andThen, Numbered}
+use Rattle.answer.specs.Outcome.{Outcome, refused, answered, valueOf, andThen}
+use Rattle.answer.specs.Internal.{Numbered}
 use Rattle.answer.proofs.Outcomes.{apart, andThen-numbered}
 use Rattle.elements.specs.declared.Atoms.{Atoms}
 use Rattle.elements.specs.Elements.{each}

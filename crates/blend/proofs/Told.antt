@@ -6,7 +6,8 @@ use native.Mathlib.Omega.{arith}
 use lib.Dec.{ltb}
 use Rattle.answer.specs.declared.Refusal.{Refusal}
 use Rattle.answer.specs.Numbers.{totalTooLarge, blendOutOfBounds}
-use Rattle.answer.specs.Outcome.{Outcome, refused, answered, refuse, andThen, unless, Numbered}
+use Rattle.answer.specs.Outcome.{Outcome, refused, answered, refuse, andThen, unless}
+use Rattle.answer.specs.Internal.{Numbered}
 use Rattle.answer.proofs.Outcomes.{told-refused, told-answered, refuse-numbered, andThen-numbered}
 use Rattle.elements.specs.declared.Atoms.{Atoms}
 use Rattle.blend.specs.declared.Blend.{Blend}

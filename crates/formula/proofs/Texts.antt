@@ -8,7 +8,8 @@ use lib.Dec.{ltb}
 use lib.ListN.{length}
 use borrow.Author.Tests.{lt-ltb, le-ltb}
 use Rattle.answer.specs.Numbers.{noFormula, countTooLarge}
-use Rattle.answer.specs.Outcome.{Outcome, refused, answered, unless, Numbered}
+use Rattle.answer.specs.Outcome.{Outcome, refused, answered, unless}
+use Rattle.answer.specs.Internal.{Numbered}
 use Rattle.answer.proofs.Outcomes.{refuse-numbered, refuseAt-numbered, told-refused, told-answered}
 use Rattle.text.specs.Reader.{leftAt, valueRead}
 use Rattle.elements.specs.declared.Atoms.{Atoms}

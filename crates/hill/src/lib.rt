@@ -2,17 +2,15 @@
 ghost use mathlib.Core.Path.{_≡_};
 ghost use Prim.Native.Nat.{_≤_};
 ghost use lib.ListN.{length, take};
-ghost use Rattle.answer.specs.Outcome.{refused, refusal};
 ghost use Rattle.text.specs.Reader.{at};
 ghost use Rattle.text.specs.Room.{putAt, behind};
-ghost use Rattle.text.specs.Writing.{shownLength, Longest};
+ghost use Rattle.text.specs.Writing.{Longest};
 ghost use Rattle.text.specs.Internal.{Puts};
 ghost use Rattle.elements.specs.Internal.{AtMost200};
 ghost use Rattle.hill.specs.Hill.{hillOrder, hillItem, hillText, BySymbol};
 ghost use Rattle.elements.specs.Elements.{symbol};
 ghost use Rattle.hill.specs.Writing.{formulaWritten, roomAfter};
 ghost use Rattle.hill.specs.RoundTrip.{RoundTrip};
-use answer::Refusal;
 use elements::Atoms;
 use elements::Element;
 use elements::each;
@@ -22,6 +20,7 @@ use elements::number_of;
 use text::Written;
 use text::put;
 use text::put_decimal;
+use text::refused_text;
 use text::write_whole;
 
 const BY_SYMBOL: [Element; 10] = [
@@ -147,15 +146,6 @@ fn hill_line(atoms: Atoms) -> Line
         i += 1;
     }
     Line { bytes, length: at }
-}
-
-fn refused_text(number: u64, place: u64) -> Written
-    ensures { λ r. ⌜ r ≡ shownLength (refused (refusal number place)) ⌝ }
-{
-    Written {
-        refusal: Refusal { number, place },
-        length: 0,
-    }
 }
 
 // Writes atom counts in Hill order at the start of out, and answers the text's length; the bytes behind it stay. Refusals 1 where all counts are 0,

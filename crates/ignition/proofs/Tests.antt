@@ -10,7 +10,8 @@ use borrow.Author.Tests.{le-leb, lt-leb, lt-ltb}
 use lib.Dec.{leb}
 use lib.IntN.{pos}
 use Rattle.answer.specs.Numbers.{unknownMethod, diffusionOutside}
-use Rattle.answer.specs.Outcome.{Outcome, refused, answered, refuse, andThen, shownTemperature, Numbered}
+use Rattle.answer.specs.Outcome.{Outcome, refused, answered, refuse, andThen, shownTemperature}
+use Rattle.answer.specs.Internal.{Numbered}
 use Rattle.answer.specs.Outside.{outside}
 use Rattle.answer.proofs.Outcomes.{refuse-numbered, andThen-numbered}
 use Rattle.answer.proofs.Outside.{inside}

@@ -6,7 +6,8 @@ use Prim.Native.Nat.{ℕ}
 use native.Mathlib.Omega.{arith}
 use lib.IntN.{ℤ, natAbs}
 use Rattle.answer.specs.Numbers.{gasTemperatureOutside}
-use Rattle.answer.specs.Outcome.{Outcome, refused, answered, valueOf, andThen, Numbered}
+use Rattle.answer.specs.Outcome.{Outcome, refused, answered, valueOf, andThen}
+use Rattle.answer.specs.Internal.{Numbered}
 use Rattle.answer.proofs.Outcomes.{refuse-numbered, andThen-numbered}
 use Rattle.rounding.proofs.Fractions.{is-same}
 use Rattle.elements.specs.declared.Atoms.{Atoms}

@@ -9,7 +9,8 @@ use lib.IntN.{pos, natAbs}
 use lib.Signed.{ltZ}
 use borrow.Author.Tests.{eq-eqb, ne-eqb}
 use Rattle.answer.specs.Numbers.{countTooLarge, elementNotAdmitted, oxygenTooLow}
-use Rattle.answer.specs.Outcome.{Outcome, answered, refuse, refuseAt, valueOf, Numbered}
+use Rattle.answer.specs.Outcome.{Outcome, answered, refuse, refuseAt, valueOf}
+use Rattle.answer.specs.Internal.{Numbered}
 use Rattle.answer.proofs.Lowest.{found-none}
 use Rattle.answer.proofs.Outcomes.{refuse-numbered, refuseAt-numbered, refuse-passed, refuseAt-passed}
 use Rattle.elements.specs.declared.Element.{Element}

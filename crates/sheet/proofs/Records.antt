@@ -4,7 +4,8 @@ use mathlib.Core.List.{List, [], _∷_}
 use Prim.Native.Nat.{ℕ, suc, _+_, _-_, _≤_, _<_}
 use native.Mathlib.Omega.{arith}
 use lib.ListN.{length, take, drop, drop-of-length-le}
-use Rattle.answer.specs.Outcome.{Outcome, refused, answered, refusal, andThen, Numbered}
+use Rattle.answer.specs.Outcome.{Outcome, refused, answered, refusal, andThen}
+use Rattle.answer.specs.Internal.{Numbered}
 use Rattle.csv.specs.declared.Span.{Span}
 use Rattle.csv.specs.Lines.{comma, lineAt, fieldAt}
 use Rattle.csv.specs.Sheet.{records}

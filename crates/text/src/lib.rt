@@ -2,6 +2,7 @@
 ghost use mathlib.Core.Path.{_≡_};
 ghost use Prim.Native.Nat.{_+_, _≤_, _<_};
 ghost use lib.ListN.{length, getD, drop};
+ghost use Rattle.answer.specs.Outcome.{refused, refusal};
 ghost use Rattle.text.specs.Bytes.{byte};
 ghost use Rattle.text.specs.Decimal.{decimal, digitFrom};
 ghost use Rattle.text.specs.Room.{putAt, behind};
@@ -62,19 +63,23 @@ pub fn put(out: &mut [u8], at: usize, s: &[u8]) -> usize
     at + s.len()
 }
 
+// No text, for a refusal.
+pub fn refused_text(number: u64, place: u64) -> Written
+    ensures { λ r. ⌜ r ≡ shownLength (refused (refusal number place)) ⌝ }
+{
+    Written {
+        refusal: Refusal { number, place },
+        length: 0,
+    }
+}
+
 // Writes s whole at the start of out, and answers its length; the bytes behind it stay. Refusal 17 where out is too short, which leaves all of out as it was.
 pub fn write_whole(out: &mut [u8], s: &[u8]) -> Written
     ensures { λ r. ⌜ r ≡ shownLength (placed (length (now (out .entry))) (now (s .entry))) ⌝ }
     ensures room { λ r. ⌜ now (out .exit) ≡ holding (now (out .entry)) (placed (length (now (out .entry))) (now (s .entry))) ⌝ }
 {
     if s.len() > out.len() {
-        return Written {
-            refusal: Refusal {
-                number: answer::NO_ROOM,
-                place: 0,
-            },
-            length: 0,
-        };
+        return refused_text(answer::NO_ROOM, 0);
     }
     copy(out, 0, s);
     Written {
