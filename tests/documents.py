@@ -5,7 +5,7 @@ import pathlib
 import re
 import sys
 
-DOCUMENTS = ["README.md", "CHANGELOG.md", "docs/RULES.md", "docs/PROMISES.md", "docs/DECISIONS.md", "docs/CONTRIBUTING.md", "docs/MEASURES.md"]
+DOCUMENTS = ["README.md", "CHANGELOG.md", *(str(path) for path in sorted(pathlib.Path("docs").rglob("*.md")))]
 CRATES = pathlib.Path("crates")
 texts = {name: pathlib.Path(name).read_text() for name in DOCUMENTS}
 faults = []

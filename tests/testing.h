@@ -14,8 +14,15 @@ typedef struct { uint64_t count[22]; } jlt_bonds;
 /* A temperature, or a refusal and 0. */
 typedef struct { jlw_refusal refusal; int64_t value; } jlt_temperature;
 
+/* A quotient and its remainder. */
+typedef struct { uint64_t quotient, remainder; } jlt_quotient;
+
 JLW_STATIC_ASSERT(sizeof(jlt_bonds) == 176, "jlt_bonds");
 JLW_STATIC_ASSERT(sizeof(jlt_temperature) == 24 && offsetof(jlt_temperature, value) == 16, "jlt_temperature");
+JLW_STATIC_ASSERT(sizeof(jlt_quotient) == 16 && offsetof(jlt_quotient, remainder) == 8, "jlt_quotient");
+
+/* n / d and n % d, by shifts, compares and subtractions. By 0 the quotient is 0 and the remainder n. */
+jlt_quotient jlt_divide(uint64_t n, uint64_t d);
 
 /* Formula (33): method 1 closed cup, 2 open cup, 3 fire point. Refusals 16, 2, 5, 6, 7. */
 jlt_temperature jlt_flash_by_bonds(uint64_t method, jlw_atoms atoms, jlt_bonds bonds, int64_t boiling);

@@ -296,6 +296,18 @@ static void test_out_of_bounds(void)
 
 static const jlw_atoms ethanol = {{2, 6, 1}}, benzene = {{6, 6}}, methane = {{1, 4}}, ethane = {{2, 6}}, propane = {{3, 8}};
 
+static void test_division(void)
+{
+    static const uint64_t numbers[] = {0, 1, 2, 3, 7, 10, 99, 100, 1000, UINT32_MAX, UINT64_C(1) << 32, UINT64_C(1) << 63, UINT64_MAX - 1, UINT64_MAX};
+    enum { COUNT = sizeof numbers / sizeof *numbers };
+    for (size_t i = 0; i < COUNT; i++)
+        for (size_t j = 0; j < COUNT; j++) {
+            uint64_t n = numbers[i], d = numbers[j];
+            jlt_quotient found = jlt_divide(n, d);
+            CHECK(found.quotient == (d ? n / d : 0) && found.remainder == (d ? n % d : n));
+        }
+}
+
 static void test_bonds(void)
 {
     jlt_bonds bonds = {{0}};
@@ -486,6 +498,7 @@ int main(void)
     test_limits();
     test_blends();
     test_out_of_bounds();
+    test_division();
     test_bonds();
     test_classes();
     test_curves();

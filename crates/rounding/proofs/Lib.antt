@@ -1,3 +1,4 @@
 pub mod Signed
+pub mod Division
 pub mod Rounding
 pub mod Fractions

@@ -1,24 +1,16 @@
--- Quotient and remainder; rounding once: `roundDiv n d` is the one number nearest to n / d, and goes by that value alone; `roundDivℤ` keeps the sign.
-use mathlib.Core.Path.{_≡_, refl, sym, ap₂}
+-- Rounding once: `roundDiv n d` is the one number nearest to n / d, and goes by that value alone; `roundDivℤ` keeps the sign.
+use mathlib.Core.Path.{_≡_, refl, sym}
 use mathlib.Core.Bool.{true, false}
-use Prim.Native.Nat.{ℕ, zero, suc, _+_, _*_, _/_, _%_, _≤_, _<_}
+use Prim.Native.Nat.{ℕ, zero, suc, _+_, _*_, _/_, _≤_, _<_}
 use native.Mathlib.Nat.{mul-le-mul-left, mul-le-mul-right, le-of-mul-le-mul-right, le-antisymm, le-of-eq}
-use native.Mathlib.Nat.{div-add-mod', mod-lt, div-zero, div-mul-le-self, lt-div-mul-add, div-eq-of-lt-le, le-div-iff-mul-le}
+use native.Mathlib.Nat.{div-zero, div-mul-le-self, lt-div-mul-add, div-eq-of-lt-le, le-div-iff-mul-le}
 use native.Mathlib.Omega.{arith}
 use lib.IntN.{ℤ, pos, negsuc, negℤ, negℤ-negℤ, natAbs, _-ℤ_, _*ℤ_}
 use lib.Signed.{ltZ}
 use borrow.Author.Tests.{ltb-true}
-use Rattle.rounding.specs.declared.Quotient.{Quotient}
-use Rattle.rounding.specs.Round.{divided, roundDiv, roundDivℤ}
+use Rattle.rounding.specs.Round.{roundDiv, roundDivℤ}
 use Rattle.rounding.specs.Rounds.{Nearest, Rounds, Roundsℤ}
 use Rattle.rounding.proofs.Signed.{size-neg-is, neg-times, size-diff, size-diff-neg}
-
--- quotient and remainder
-pub divided-is : (n d q r : ℕ) → q ≡ n / d → r ≡ n % d → record { quotient = q; remainder = r } ≡ divided n d
-divided-is n d q r e f = ap₂ (λ (q r : ℕ). record { quotient = q; remainder = r }) e f
-
-pub divided-parts : (n d : ℕ) (p : Quotient) → p ≡ divided n d → 0 < d → (p .quotient * d + p .remainder ≡ n) × (p .remainder < d)
-divided-parts n d p e h = rw e (div-add-mod' n d, mod-lt n h)
 
 -- the nearest number, and the only one
 pub nearest : (n d : ℕ) → 0 < d → Nearest n d (roundDiv n d)

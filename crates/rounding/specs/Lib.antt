@@ -1,3 +1,4 @@
 pub mod Round
 pub mod Fraction
 pub mod Rounds
+pub mod Internal

@@ -1,29 +1,76 @@
-// Quotients of whole numbers: exact, and rounded once. The only division of the project that is not by a constant power of two.
+// Quotients of whole numbers by shifts, compares and subtractions: exact, and rounded once. No file divides but by a constant power of two.
 ghost use mathlib.Core.Path.{_≡_};
-ghost use Prim.Native.Nat.{_≤_};
+ghost use mathlib.Core.Bool.{cond};
+ghost use lib.Dec.{leb};
+ghost use Prim.Native.Nat.{_≤_, _<_};
 ghost use lib.IntN.{pos, negℤ, natAbs};
 ghost use Rattle.rounding.specs.Round.{divided, roundDiv, roundDivℤ};
 ghost use Rattle.rounding.specs.Rounds.{Rounds, Roundsℤ};
+ghost use Rattle.rounding.specs.Internal.{Doubled};
 
+#[repr(C)]
 pub struct Quotient {
     pub quotient: u64,
     pub remainder: u64,
+}
+
+// `more` where the multiple is at most a limit, else the multiple.
+fn raised(multiple: u64, limit: u64, more: u64) -> u64
+    ensures { λ r. ⌜ r ≡ cond (leb multiple limit) more multiple ⌝ }
+{
+    if multiple <= limit {
+        return more;
+    }
+    multiple
+}
+
+// d doubled as often as it stays at most n. Of `within_k`, k doublings more exceed n. The shifts are by constants, so that the compiler makes a step without a
+// jump.
+fn doubled(n: u64, d: u64) -> u64
+    requires { ⌜ (0 < d) × (d ≤ n) ⌝ }
+    ensures { λ r. ⌜ Doubled n d 1 r ⌝ }
+{
+    let within_32 = raised(d, n >> 32, d << 32);
+    let within_16 = raised(within_32, n >> 16, within_32 << 16);
+    let within_8 = raised(within_16, n >> 8, within_16 << 8);
+    let within_4 = raised(within_8, n >> 4, within_8 << 4);
+    let within_2 = raised(within_4, n >> 2, within_4 << 2);
+    raised(within_2, n >> 1, within_2 << 1)
+}
+
+// A bit of the quotient for each halving of the multiple, down to d: 1 where it can be subtracted. The first bit is 1.
+fn subtracted(n: u64, d: u64, first: u64) -> Quotient
+    requires { ⌜ Doubled n d 1 first ⌝ }
+    ensures { λ r. ⌜ r ≡ divided n d ⌝ }
+{
+    let mut multiple = first;
+    let mut quotient: u64 = 1;
+    let mut remainder = n - first;
+    while d < multiple {
+        multiple >>= 1;
+        quotient <<= 1;
+        if multiple <= remainder {
+            remainder -= multiple;
+            quotient += 1;
+        }
+    }
+    Quotient {
+        quotient,
+        remainder,
+    }
 }
 
 // Quotient and remainder. By 0 the quotient is 0 and the remainder n.
 pub fn divide(n: u64, d: u64) -> Quotient
     ensures { λ r. ⌜ r ≡ divided n d ⌝ }
 {
-    if d == 0 {
+    if d == 0 || n < d {
         return Quotient {
             quotient: 0,
             remainder: n,
         };
     }
-    Quotient {
-        quotient: n / d,
-        remainder: n % d,
-    }
+    subtracted(n, d, doubled(n, d))
 }
 
 // n / d rounded once, halves up. By 0 it is 0.

@@ -3,6 +3,7 @@ ghost use mathlib.Core.Path.{_≡_};
 ghost use mathlib.Core.Option.{some};
 ghost use Prim.Native.Nat.{_≤_};
 ghost use Rattle.answer.specs.Outcome.{shownFigure, shownTemperature};
+ghost use Rattle.rounding.specs.Round.{divided};
 ghost use Rattle.text.specs.Writing.{Longest};
 ghost use Rattle.oxygen.specs.Admission.{oxygenCoefficient};
 ghost use Rattle.blend.specs.Fuel.{counts};
@@ -26,7 +27,15 @@ use blend::Blended;
 use blend::Limits;
 use bonds::Bonds;
 use elements::Atoms;
+use rounding::Quotient;
 use text::Written;
+
+#[no_mangle]
+pub extern "C" fn jlt_divide(n: u64, d: u64) -> Quotient
+    ensures { λ r. ⌜ r ≡ divided n d ⌝ }
+{
+    rounding::divide(n, d)
+}
 
 #[no_mangle]
 pub extern "C" fn jlt_flash_by_bonds(

@@ -7,6 +7,7 @@ use crate::generate::Random;
 use crate::library::{self as lib, Shown, ANSWERED};
 use peer::analyser::{parts, Method, Reading};
 use peer::blend::Blend;
+use peer::division::divide;
 use peer::flash::{by_bonds, by_class};
 use peer::formula::{self, Atoms};
 use peer::{curve, limits, sheet};
@@ -16,6 +17,8 @@ use std::time::{Duration, Instant};
 
 const SEED: u64 = 7;
 const INPUTS: usize = 64;
+/// So many that a processor does not learn how each division goes.
+const DIVISIONS: usize = 4_096;
 const ROUNDS: usize = 7;
 const ROUND: Duration = Duration::from_millis(60);
 /// How much dearer a unit of a longer input may be: what the clock of a shared machine needs.
@@ -26,14 +29,15 @@ pub fn run() {
         println!("{:<40}{:>12}{:>12}{:>8}", "", "library ns", "peer ns", "ratio");
     }
     let random = &mut Random(SEED);
+    let follows = divisions(&mut Random(SEED));
     fuels(random);
     blends(random);
     points(random);
     readings(random);
     counts(random);
-    let grows = texts(random) & vapour(random) & sheets(random);
+    let grows = follows & texts(random) & vapour(random) & sheets(random);
     if !grows {
-        println!("FAILED: a cost grows faster than its input");
+        println!("FAILED: a cost does not follow its input");
         exit(1);
     }
 }
@@ -97,6 +101,29 @@ fn growth(unit: &str, sizes: &[(usize, f64)]) -> bool {
 
 fn many<T>(make: impl FnMut() -> T) -> Vec<T> {
     std::iter::repeat_with(make).take(INPUTS).collect()
+}
+
+/// A number and its divisor with a quotient of so many bits.
+fn division(random: &mut Random, bits: u64) -> (u64, u64) {
+    let quotient = random.of_bits(bits);
+    let divisor_bits = random.below(65 - bits);
+    let d = random.of_bits(divisor_bits).max(1);
+    (quotient * d + random.below(d), d)
+}
+
+/// Beside the processor's own division. Whether the cost follows the bits of the quotient: no faster, and not as if there were always 64.
+fn divisions(random: &mut Random) -> bool {
+    let mut quotients = |name: &str, least: u64, most: u64| {
+        let mut make = || {
+            let bits = least + random.below(most - least + 1);
+            division(random, bits)
+        };
+        let inputs: Vec<_> = (0..DIVISIONS).map(|_| make()).collect();
+        row(&format!("jlt_divide, {name} bits"), &inputs, |&(n, d)| lib::divide(n, d), |&(n, d)| divide(n, d))
+    };
+    quotients("10 to 14", 10, 14);
+    let sizes = [4, 16, 64].map(|bits| (bits as usize, quotients(&bits.to_string(), bits, bits)));
+    growth("bit", &sizes) & (4.0 * sizes[0].1 <= sizes[2].1)
 }
 
 /// A formula of so many bytes with at most 200 atoms of an element.

@@ -26,6 +26,14 @@ impl Random {
         low + self.below((high - low + 1) as u64) as i64
     }
 
+    /// A number of exactly so many bits, from 0 to 64.
+    pub fn of_bits(&mut self, bits: u64) -> u64 {
+        match bits {
+            0 => 0,
+            _ => (self.next() | 1 << 63) >> (64 - bits),
+        }
+    }
+
     pub fn one_in(&mut self, times: u64) -> bool {
         self.below(times) == 0
     }

@@ -5,6 +5,7 @@ pub mod analyser;
 pub mod blend;
 pub mod book;
 pub mod curve;
+pub mod division;
 pub mod flash;
 pub mod formula;
 pub mod grammar;

@@ -2,6 +2,7 @@
 
 use peer::analyser::{Method, Reading};
 use peer::blend::Blend;
+use peer::division::Quotient;
 use peer::formula::Atoms;
 use peer::limits::Pair;
 use peer::refusal::{Answer, Refusal};
@@ -84,6 +85,7 @@ mod c {
         pub fn jlw_join_blends(total: u64, lower: u64, upper: u64, other_total: u64, other_lower: u64, other_upper: u64) -> Blended;
         pub fn jlw_blend_limits(total: u64, lower: u64, upper: u64) -> Limits;
         pub fn jlw_blend_limits_at(total: u64, lower: u64, upper: u64, temperature: i64) -> Limits;
+        pub fn jlt_divide(n: u64, d: u64) -> Quotient;
         pub fn jlt_flash_by_bonds(method: u64, atoms: Counts, bonds: BondCounts, boiling: i64) -> Temperature;
         pub fn jlt_flash_by_class(class_number: u64, boiling: i64) -> Temperature;
         pub fn jlt_flash_by_curve(
@@ -173,6 +175,10 @@ pub fn blend_limits_at(blend: Blend, temperature: i64) -> Limits {
     unsafe { c::jlw_blend_limits_at(blend.total, blend.lower, blend.upper, temperature) }
 }
 
+pub fn divide(n: u64, d: u64) -> Quotient {
+    unsafe { c::jlt_divide(n, d) }
+}
+
 pub fn flash_by_bonds(method: u64, atoms: &Atoms, bonds: &[u64; 22], boiling: i64) -> Temperature {
     unsafe { c::jlt_flash_by_bonds(method, Counts { count: *atoms }, BondCounts { count: *bonds }, boiling) }
 }
@@ -234,6 +240,13 @@ macro_rules! shown {
 }
 
 shown!(Formula, Figure, Limits, Blended, Temperature);
+
+/// A division refuses nothing.
+impl Shown for Quotient {
+    fn refusal(&self) -> Refusal {
+        ANSWERED
+    }
+}
 
 pub const ANSWERED: Refusal = Refusal { number: 0, place: 0 };
 

@@ -4,7 +4,8 @@ use Prim.Native.Nat.{ℕ, _+_, _*_, _<_}
 use native.Mathlib.Omega.{arith}
 use Rattle.rounding.specs.Round.{roundDiv}
 use Rattle.rounding.specs.Rounds.{Rounds}
-use Rattle.rounding.proofs.Rounding.{divided-parts, nearest-is, round-by-zero, round-le, rounds}
+use Rattle.rounding.proofs.Division.{divided-parts}
+use Rattle.rounding.proofs.Rounding.{nearest-is, round-by-zero, round-le, rounds}
 use Rattle.rounding.proofs.round_div.Statement.{statement}
 use Rattle.rounding.proofs.round_div.Tie as tie
 

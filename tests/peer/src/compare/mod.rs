@@ -2,6 +2,7 @@
 
 mod blends;
 mod bonds;
+mod divisions;
 mod figures;
 mod readings;
 mod sheets;
@@ -30,7 +31,7 @@ pub fn run() {
     figures::check();
     let mut source =
         Source { random: Random(SEED), bytes: Fence::new(1 << 18), temperatures: Fence::new(8 * 5_000), pressures: Fence::new(8 * 5_000) };
-    let parts: &[fn(&mut Source) -> u64] = &[texts::run, blends::run, bonds::run, vapour::run, readings::run, sheets::run];
+    let parts: &[fn(&mut Source) -> u64] = &[texts::run, blends::run, bonds::run, vapour::run, readings::run, sheets::run, divisions::run];
     let compared: u64 = parts.iter().map(|part| part(&mut source)).sum();
     if compared < LEAST_INPUTS {
         fail(&format!("{compared} inputs compared, fewer than {LEAST_INPUTS}"));

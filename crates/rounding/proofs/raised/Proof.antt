@@ -1,0 +1,13 @@
+-- The test of the definition is the code's.
+use borrow.Author.Tests.{le-leb, lt-leb}
+use Rattle.rounding.proofs.raised.Statement.{statement}
+use Rattle.rounding.proofs.raised.Tie as tie
+
+returns : tie.Need-returns
+returns c = rw (le-leb _ _ (c .if1 .taken))
+
+returns-2 : tie.Need-returns-2
+returns-2 c = rw (lt-leb _ _ (c .if1 .left))
+
+pub raised-spec : {M : Type 1} → statement M
+raised-spec = tie.close (tie.spec returns returns-2)
