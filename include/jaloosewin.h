@@ -93,7 +93,7 @@ jlw_limits jlw_fuel_limits(const uint8_t *text, size_t text_len);
 /* The same at a temperature: CH4 at 25.00, where the formulas were fitted, 454 and 2732. Refusal 10 outside 0.00 to 200.00, after the fuel's. */
 jlw_limits jlw_fuel_limits_at(const uint8_t *text, size_t text_len, int64_t temperature);
 
-/* The mass concentrations of a fuel at both limits in 0.01 g/m3; refusals as for limits at a temperature. */
+/* The mass concentrations of a fuel at both limits in 0.01 g/m3, for CH4 at 134.00 1983 and 14841; refusals as for limits at a temperature. */
 jlw_limits jlw_mass_concentration(const uint8_t *text, size_t text_len, int64_t temperature);
 
 /* Blends. A blend goes in as its three numbers and comes back as a struct; with a refusal it comes back as it was given (of a joining, the first).

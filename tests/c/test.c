@@ -231,7 +231,8 @@ static void test_limits(void)
     CHECK(limits_refused(jlw_fuel_limits_at(TEXT("CH4"), 20001), 10, 0));
     CHECK(limits_refused(jlw_fuel_limits_at(TEXT("CO2"), INT64_MIN), 4, 0));
     CHECK(limits_refused(jlw_fuel_limits_at(NO_TEXT, INT64_MAX), 1, 0));
-    CHECK(limits_are(jlw_mass_concentration(TEXT("CH4"), 13400), 1984, 14848));
+    CHECK(limits_are(jlw_mass_concentration(TEXT("CH4"), 13400), 1983, 14841));
+    CHECK(limits_are(jlw_mass_concentration(TEXT("CH3Cl"), 2000), 11903, 72322));
     CHECK(limits_refused(jlw_mass_concentration(TEXT("CH4"), INT64_MIN), 10, 0));
     CHECK(limits_refused(jlw_mass_concentration(TEXT("C201"), 0), 2, 1));
 }

@@ -23,9 +23,9 @@ use Rattle.limits.specs.FuelLimits.{fuelFigures, fuelLimits}
 use Rattle.limits.specs.Concentration.{molarVolume, concentration}
 use Rattle.limits.specs.Internal.{rate}
 
-volume-is : (t : ℕ) → Is (molarVolume t) (224 * (t + 27300)) (10 * 27300)
+volume-is : (t : ℕ) → Is (molarVolume t) (22414 * (t + 27315)) (1000 * 27315)
 unfolding molarVolume
-volume-is t = is-times (is-over 224 10 (omega arith)) (is-over (t + 27300) 27300 (omega arith))
+volume-is t = is-times (is-over 22414 1000 (omega arith)) (is-over (t + 27315) 27315 (omega arith))
 
 pub concentration-is : (a : Atoms) → AtMost200 a → (t limit : ℕ) → rate (weightedSum masses a) t limit ≡ concentration a t limit
 unfolding concentration rate

@@ -9,9 +9,9 @@ use Rattle.blend.specs.Fuel.{molarMass}
 use Rattle.blend.specs.Blend.{LimitPair}
 use Rattle.limits.specs.FuelLimits.{fuelLimits}
 
--- Vm = 22.4 (t + 273) / 273 m³/kmol, t in hundredths of a degree
+-- Vm = 22.414 (t + 273.15) / 273.15 m³/kmol (change request g), t and 273.15 in hundredths of a degree
 unfoldable pub molarVolume : ℕ → Fraction
-molarVolume t = (224 over 10) ⊠ ((t + 273 * 100) over (273 * 100))
+molarVolume t = (22414 over 1000) ⊠ ((t + 27315) over 27315)
 
 -- 10 M φ / Vm g/m³, φ the limit as answered, in hundredths of a percent; in 0.01 g/m³, rounded once
 unfoldable pub concentration : Atoms → ℕ → ℕ → ℕ

@@ -42,12 +42,12 @@ pub fn fuel_limits(fuel: Atoms) -> Limits
     fuel_limits_at(fuel, USUAL_TEMPERATURE)
 }
 
-// The mass concentration at a limit, for a molar mass in halves.
+// The mass concentration at a limit, for a molar mass in halves: 10 M φ / Vm as one quotient.
 fn rate_of(mass: u64, t: u64, limit: u64) -> u64
     requires { ⌜ (mass ≤ 40000) × (t ≤ 20000) × (limit ≤ 10000) ⌝ }
     ensures { λ r. ⌜ r ≡ rate mass t limit ⌝ }
 {
-    round_div(mass * limit * 24375, 4 * (t + 27300))
+    round_div(mass * limit * 5000 * 27315, 22414 * (t + 27315))
 }
 
 // The mass concentration of a fuel at both limits, in 0.01 g/m³. Refusals 2, 3, 4, 10.

@@ -1,4 +1,5 @@
--- The worked examples: the figures that document 01 marks for proof, each question with the answer printed there.
+-- The worked examples: the figures that document 01 marks for proof, as change requests amend them, and figures added with those; each question with its
+-- printed answer.
 use mathlib.Core.Path.{_≡_}
 use mathlib.Core.List.{List, [], _∷_, map}
 use mathlib.Core.Bool.{cond}
@@ -96,7 +97,8 @@ examples =
     ∷ record { asked = limitsUsual "CH4"; printed = figures (454 ∷ 2732 ∷ []) }
     ∷ record { asked = fraction "CH4"; printed = figures (936 ∷ []) }
     ∷ record { asked = limitsAt "CH4" 13400; printed = figures (414 ∷ 3099 ∷ []) }
-    ∷ record { asked = concentrations "CH4" 13400; printed = figures (1984 ∷ 14848 ∷ []) }
+    ∷ record { asked = concentrations "CH4" 13400; printed = figures (1983 ∷ 14841 ∷ []) }
+    ∷ record { asked = concentrations "CH3Cl" 2000; printed = figures (11903 ∷ 72322 ∷ []) }
     ∷ record { asked = coefficient "C6H6"; printed = figures (30 ∷ []) }
     ∷ record { asked = limits "C6H6"; printed = figures (143 ∷ 821 ∷ []) }
     ∷ record { asked = limits "CO2"; printed = refusal 4 0 }

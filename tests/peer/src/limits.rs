@@ -66,12 +66,12 @@ pub fn fuel_limits_of_text(text: &[u8]) -> Answer<Pair> {
     fuel_limits_of_text_at(text, USUAL_TEMPERATURE)
 }
 
-/// 10 M phi / Vm at both limits as answered, Vm = 22.4 (t + 273)/273, in 0.01 g/m3.
+/// 10 M phi / Vm at both limits as answered, Vm = 22.414 (t + 273.15)/273.15, in 0.01 g/m3.
 pub fn mass_concentration_of_text(text: &[u8], temperature: i64) -> Answer<Pair> {
     let atoms = read(text)?;
     let limits = fuel_limits_at(&atoms, temperature)?;
     let double_mass: u64 = DOUBLE_MASS.iter().map(|&(element, mass)| mass * atoms[element]).sum();
-    let volume = 2 * 224 * (temperature as u64 + 27_300);
-    let at = |limit| round_div(10 * double_mass * limit * 273_000, volume);
+    let volume = 2 * 22_414 * (temperature as u64 + 27_315);
+    let at = |limit| round_div(10 * double_mass * limit * 27_315_000, volume);
     Ok(Pair { lower: at(limits.lower), upper: at(limits.upper) })
 }

@@ -16,6 +16,9 @@ mul-round-div c = omega (arith, product c)
 mul-round-div-2 : tie.Need-mul-round-div-2
 mul-round-div-2 c = omega (arith, product c)
 
+mul-round-div-3 : tie.Need-mul-round-div-3
+mul-round-div-3 c = omega (arith, product c)
+
 returns : tie.Need-returns
 unfolding rate
 returns c = c .round-div .ensures .0
@@ -26,6 +29,7 @@ rate-of-spec =
     (tie.spec
     mul-round-div
     mul-round-div-2
+    mul-round-div-3
     (λ c. search needs)
     (λ c. search needs)
     (λ c κs. tt)

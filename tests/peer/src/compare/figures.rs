@@ -42,7 +42,8 @@ fn fuels() {
     same("CH4", limits::fuel_limits_of_text_at(b"CH4", FIT_TEMPERATURE), pair(454, 2_732));
     same("CH4 fraction", limits::stoichiometric_fraction_of_text(b"CH4"), Ok(936));
     same("CH4 at 134", limits::fuel_limits_of_text_at(b"CH4", 13_400), pair(414, 3_099));
-    same("CH4 mass", limits::mass_concentration_of_text(b"CH4", 13_400), pair(1_984, 14_848));
+    same("CH4 mass", limits::mass_concentration_of_text(b"CH4", 13_400), pair(1_983, 14_841));
+    same("CH3Cl mass", limits::mass_concentration_of_text(b"CH3Cl", 2_000), pair(11_903, 72_322));
     same("C6H6", limits::fuel_limits_of_text_at(b"C6H6", FIT_TEMPERATURE), pair(143, 821));
     same("C7H8", limits::fuel_limits_of_text_at(b"C7H8", FIT_TEMPERATURE), pair(121, 743));
     same("CO2", limits::fuel_limits_of_text_at(b"CO2", FIT_TEMPERATURE), refuse(4, 0));
