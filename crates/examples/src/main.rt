@@ -210,11 +210,11 @@ fn fuel_limits() {
     show_fuel(b"CH");
     show_fuel(b"C(");
     show_fuel_at(b"CH4", 13400);
-    show_fuel_at(b"CH3Cl", 2000);
     show_fuel_at(b"CH4", 0);
     show_fuel_at(b"CH4", 20000);
     show_fuel_at(b"CH4", 20001);
     show_fuel_at(b"CH4", -1);
+    show_fuel_at(b"CH3Cl", 2000);
     show_usual(b"CH4");
 }
 

@@ -1,6 +1,6 @@
 -- Mass concentration of one fuel at its limits (document 01, "Mass concentration of one fuel").
 use mathlib.Core.Option.{some}
-use Prim.Native.Nat.{ℕ, _+_, _*_}
+use Prim.Native.Nat.{ℕ, _+_}
 use lib.IntN.{ℤ, natAbs}
 use Rattle.answer.specs.Outcome.{Outcome, answered, andThen}
 use Rattle.rounding.specs.Fraction.{Fraction, _over_, whole, _⊠_, _⊘_, figure}
@@ -9,7 +9,7 @@ use Rattle.blend.specs.Fuel.{molarMass}
 use Rattle.blend.specs.Blend.{LimitPair}
 use Rattle.limits.specs.FuelLimits.{fuelLimits}
 
--- Vm = 22.414 (t + 273.15) / 273.15 m³/kmol (change request g), t and 273.15 in hundredths of a degree
+-- Vm = 22.414 (t + 273.15) / 273.15 m³/kmol, by change request g); t and 273.15 in hundredths of a degree
 unfoldable pub molarVolume : ℕ → Fraction
 molarVolume t = (22414 over 1000) ⊠ ((t + 27315) over 27315)
 
