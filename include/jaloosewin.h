@@ -47,6 +47,9 @@ enum {
 /* No text of jlw_write_formula is longer: out_len of this is always enough. */
 enum { JLW_LONGEST_FORMULA = 43 };
 
+/* In hundredths of a degree Celsius: 25 degrees, at which the limits' formulas were fitted, and 20 degrees, which are meant where no temperature is named. */
+enum { JLW_FIT_TEMPERATURE = 2500, JLW_USUAL_TEMPERATURE = 2000 };
+
 typedef struct { uint64_t number, place; } jlw_refusal;
 typedef struct { uint64_t count[10]; } jlw_atoms; /* C H O N S P F Cl Br Si */
 typedef struct { jlw_refusal refusal; jlw_atoms atoms; } jlw_formula;
@@ -86,11 +89,11 @@ jlw_figure jlw_oxygen_coefficient(const uint8_t *text, size_t text_len);
 /* The stoichiometric fraction in 0.01 %: CH4 936; refusals as for beta. */
 jlw_figure jlw_stoichiometric_fraction(const uint8_t *text, size_t text_len);
 
-/* Both flammability limits of a fuel in 0.01 volume percent, each at most 10000. No temperature is named, 25.00 is meant.
-   Admitted: carbon present, only C, H, O, N and at most one Cl. */
+/* Both flammability limits of a fuel in 0.01 volume percent, each at most 10000. No temperature is named, 20.00 is meant:
+   CH4 455 and 2715. Admitted: carbon present, only C, H, O, N and at most one Cl. */
 jlw_limits jlw_fuel_limits(const uint8_t *text, size_t text_len);
 
-/* The same at a temperature: CH4 at 25.00, where the formulas were fitted, 454 and 2732. Refusal 10 outside 0.00 to 200.00, after the fuel's. */
+/* The same at a temperature: CH4 at JLW_FIT_TEMPERATURE 454 and 2732. Refusal 10 outside 0.00 to 200.00, after the fuel's. */
 jlw_limits jlw_fuel_limits_at(const uint8_t *text, size_t text_len, int64_t temperature);
 
 /* The mass concentrations of a fuel at both limits in 0.01 g/m3, for CH4 at 134.00 1983 and 14841; refusals as for limits at a temperature. */
@@ -104,7 +107,7 @@ jlw_limits jlw_mass_concentration(const uint8_t *text, size_t text_len, int64_t 
        jlw_blend b = jlw_empty_blend();
        b = jlw_add_fuel(b.total, b.lower, b.upper, (const uint8_t *)"C3H8", 4, 300000).blend;
        b = jlw_add_fuel(b.total, b.lower, b.upper, (const uint8_t *)"C2H6", 4, 700000).blend;
-       jlw_limits l = jlw_blend_limits(b.total, b.lower, b.upper);     257 and 1496 */
+       jlw_limits l = jlw_blend_limits(b.total, b.lower, b.upper);     258 and 1487 */
 
 /* A blend that took in nothing: three zeros. */
 jlw_blend jlw_empty_blend(void);
@@ -115,11 +118,11 @@ jlw_blended jlw_add_fuel(uint64_t total, uint64_t lower, uint64_t upper, const u
 /* Joins a second blend into a first. Refusals: 28, 8. */
 jlw_blended jlw_join_blends(uint64_t total, uint64_t lower, uint64_t upper, uint64_t other_total, uint64_t other_lower, uint64_t other_upper);
 
-/* Both limits of a blend by Le Chatelier's rule over all that it took in, in 0.01 volume percent, each at most 10000. No temperature is named, 25.00 is meant.
+/* Both limits of a blend by Le Chatelier's rule over all that it took in, in 0.01 volume percent, each at most 10000. No temperature is named, 20.00 is meant.
    Refusals: 28, 9 where the total is 0. */
 jlw_limits jlw_blend_limits(uint64_t total, uint64_t lower, uint64_t upper);
 
-/* The same at a temperature. Refusals: 28, 9, 10 outside 0.00 to 200.00. */
+/* The same at a temperature; at JLW_FIT_TEMPERATURE no correction is applied. Refusals: 28, 9, 10 outside 0.00 to 200.00. */
 jlw_limits jlw_blend_limits_at(uint64_t total, uint64_t lower, uint64_t upper, int64_t temperature);
 
 #ifdef __cplusplus

@@ -10,7 +10,7 @@ import time
 
 HEADER = b"answer,record,lower,upper\r\n"
 SHEET = b"formula,parts\r\nC3H8,300000\r\nC2H6,700000\r\n"
-ANSWER = HEADER + b"0,0,2.57,14.96\r\n"
+ANSWER = HEADER + b"0,0,2.58,14.87\r\n"
 NOT_READ = HEADER + b"15,0,,\r\n"
 SHORT_READS = [0] * (len(SHEET) // 5 + 1)
 

@@ -51,8 +51,8 @@ jlw_limits jlt_fuel_limits_at(jlw_atoms fuel, int64_t temperature);
 /* The oxygen coefficient in quarters, of atom counts. Refusals 2, 3, 4. */
 jlw_figure jlt_oxygen_coefficient(jlw_atoms fuel);
 
-/* Both limits of the mixture that a sheet lists, with no temperature named. Refusals 15 (place: record, 0 for the header or a longer sheet), then 1, 2, 3, 4, 8
-   with the record as their place, then 9. */
+/* Both limits of the mixture that a sheet lists, with no temperature named, so at 20.00. Refusals 15 (place: record, 0 for the header or a longer sheet), then
+   1, 2, 3, 4, 8 with the record as their place, then 9. */
 jlw_limits jlt_sheet_answer(const uint8_t *sheet, size_t sheet_len);
 
 /* A sheet's answer as text: two lines, CRLF after each. The text's length, at most 76; bytes behind it stay. Refusal 17 where out is too short, and all of it stays. */

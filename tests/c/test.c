@@ -22,12 +22,6 @@ static int checks, failures;
 
 enum { ROOM = 1 << 17 };
 
-/* 25 °C, at which the limits' formulas were fitted. */
-enum { FIT_TEMPERATURE = 2500 };
-
-/* 25 °C, which is meant where none is named. */
-enum { USUAL_TEMPERATURE = 2500 };
-
 /* Memory whose last byte stands before a page that may not be touched: a read past a lent slice ends the test. */
 static uint8_t *fence_end(void)
 {
@@ -217,15 +211,18 @@ static void test_oxygen(void)
 
 static void test_limits(void)
 {
-    CHECK(limits_are(jlw_fuel_limits_at(TEXT("CH4"), FIT_TEMPERATURE), 454, 2732));
-    CHECK(same_limits(jlw_fuel_limits(TEXT("CH4")), jlw_fuel_limits_at(TEXT("CH4"), USUAL_TEMPERATURE)));
-    CHECK(limits_are(jlw_fuel_limits_at(TEXT("C6H6"), FIT_TEMPERATURE), 143, 821));
-    CHECK(limits_are(jlw_fuel_limits_at(TEXT("C7H8"), FIT_TEMPERATURE), 121, 743));
+    CHECK(limits_are(jlw_fuel_limits_at(TEXT("CH4"), JLW_FIT_TEMPERATURE), 454, 2732));
+    CHECK(limits_are(jlw_fuel_limits(TEXT("CH4")), 455, 2715));
+    CHECK(same_limits(jlw_fuel_limits(TEXT("CH4")), jlw_fuel_limits_at(TEXT("CH4"), JLW_USUAL_TEMPERATURE)));
+    CHECK(limits_are(jlw_fuel_limits_at(TEXT("C6H6"), JLW_FIT_TEMPERATURE), 143, 821));
+    CHECK(limits_are(jlw_fuel_limits(TEXT("C6H6")), 144, 816));
+    CHECK(limits_are(jlw_fuel_limits_at(TEXT("C7H8"), JLW_FIT_TEMPERATURE), 121, 743));
     CHECK(limits_refused(jlw_fuel_limits(TEXT("CO2")), 4, 0));
     CHECK(limits_refused(jlw_fuel_limits(TEXT("CHCl3")), 3, 8));
     CHECK(limits_refused(jlw_fuel_limits(TEXT("CS2Cl2")), 3, 5));
     CHECK(limits_refused(jlw_fuel_limits(NO_TEXT), 1, 0));
     CHECK(limits_are(jlw_fuel_limits_at(TEXT("CH4"), 13400), 414, 3099));
+    CHECK(limits_are(jlw_fuel_limits_at(TEXT("CH4"), 11630), 421, 3039));
     CHECK(answered(jlw_fuel_limits_at(TEXT("CH4"), 0).refusal) && answered(jlw_fuel_limits_at(TEXT("CH4"), 20000).refusal));
     CHECK(limits_refused(jlw_fuel_limits_at(TEXT("CH4"), -1), 10, 0));
     CHECK(limits_refused(jlw_fuel_limits_at(TEXT("CH4"), 20001), 10, 0));
@@ -260,9 +257,10 @@ static void test_blends(void)
     jlw_blended both = join(propane.blend, ethane.blend);
     CHECK(answered(both.refusal) && both.blend.total == 1000000);
     CHECK(same_blend(both.blend, add(propane.blend, "C2H6", 700000).blend));
+    CHECK(limits_are(jlw_blend_limits(both.blend.total, both.blend.lower, both.blend.upper), 258, 1487));
     CHECK(same_limits(jlw_blend_limits(both.blend.total, both.blend.lower, both.blend.upper),
-                      jlw_blend_limits_at(both.blend.total, both.blend.lower, both.blend.upper, USUAL_TEMPERATURE)));
-    CHECK(limits_are(jlw_blend_limits_at(both.blend.total, both.blend.lower, both.blend.upper, FIT_TEMPERATURE), 257, 1496));
+                      jlw_blend_limits_at(both.blend.total, both.blend.lower, both.blend.upper, JLW_USUAL_TEMPERATURE)));
+    CHECK(limits_are(jlw_blend_limits_at(both.blend.total, both.blend.lower, both.blend.upper, JLW_FIT_TEMPERATURE), 257, 1496));
     CHECK(limits_refused(jlw_blend_limits_at(both.blend.total, both.blend.lower, both.blend.upper, 20001), 10, 0));
 
     CHECK(blend_refused(add(both.blend, "CH4", 1), 8, 0, both.blend));
@@ -440,8 +438,8 @@ static void test_counts(void)
 static void test_sheets(void)
 {
 #define SHEET "formula,parts\r\nC3H8,300000\r\nC2H6,700000"
-    CHECK(limits_are(jlt_sheet_answer(TEXT(SHEET)), 257, 1496));
-    CHECK(limits_are(jlt_sheet_answer(TEXT(SHEET "\r\n")), 257, 1496));
+    CHECK(limits_are(jlt_sheet_answer(TEXT(SHEET)), 258, 1487));
+    CHECK(limits_are(jlt_sheet_answer(TEXT(SHEET "\r\n")), 258, 1487));
     CHECK(limits_refused(jlt_sheet_answer(NO_TEXT), 15, 0));
     CHECK(limits_refused(jlt_sheet_answer(TEXT("formula,parts")), 9, 0));
     CHECK(limits_refused(jlt_sheet_answer(TEXT("formula,parts\r\n")), 9, 0));
@@ -481,11 +479,11 @@ static void check_answer(jlw_refusal refusal, uint64_t lower, uint64_t upper, co
 static void test_sheet_answers(void)
 {
     jlw_refusal none = {0, 0}, form = {15, 12}, large = {UINT64_MAX, UINT64_MAX};
-    check_answer(none, 257, 1496, "0,0,2.57,14.96");
+    check_answer(none, 258, 1487, "0,0,2.58,14.87");
     check_answer(none, 5, 0, "0,0,0.05,0.00");
     check_answer(none, UINT64_MAX, 100, "0,0,184467440737095516.15,1.00");
     check_answer(form, 0, 0, "15,12,,");
-    check_answer(form, 257, 1496, "15,12,,");
+    check_answer(form, 258, 1487, "15,12,,");
     check_answer(large, 0, 0, "18446744073709551615,18446744073709551615,,");
 }
 

@@ -2,7 +2,7 @@
 use mathlib.Core.Path.{_≡_, refl, sym, ap, _∙_}
 use mathlib.Core.Bool.{Bool, true, false}
 use mathlib.Core.List.{[], _∷_}
-use Prim.Native.Nat.{ℕ, _+_, _*_, _-_, _≤_, _<_}
+use Prim.Native.Nat.{ℕ, _*_, _≤_, _<_}
 use native.Mathlib.Nat.{le-refl, mul-le-mul-left, mul-pos, pos-of-ne-zero}
 use native.Mathlib.Omega.{arith}
 use lib.Dec.{eqb}
@@ -12,7 +12,7 @@ use Rattle.rounding.specs.Fraction.{Fraction, _over_, whole, _⊠_, _⊘_, figu
 use Rattle.rounding.proofs.Fractions.{Is, is-over, is-whole, is-plus, is-times, is-by, is-same, figure-is}
 use Rattle.blend.specs.Limit.{Side, lower, upper}
 use Rattle.blend.specs.declared.Blend.{Blend}
-use Rattle.blend.specs.Temperature.{meant, correction}
+use Rattle.blend.specs.Temperature.{meant, correction, OneAtFit}
 use Rattle.blend.specs.Fuel.{quarters}
 use Rattle.blend.specs.Blend.{Question, limits, sumOf, unit, held, blendLimit}
 use Rattle.blend.specs.Model.{Entry, Entries, sum, total, fuelLimit, shares, leChatelier, limitAt, limitFigure, modelTells, modelAsks}
@@ -21,8 +21,13 @@ use Rattle.blend.proofs.Sums.{weighs, blendOf, Times}
 
 pub correction-is : (s : Side) (t : ℕ) → Is (correction s t) (correction s t .num) (correction s t .den)
 unfolding correction _over_
-correction-is lower t = is-over (1277 * 100 - t) (1252 * 100) (omega arith)
-correction-is upper t = is-over (t + 787 * 100) (812 * 100) (omega arith)
+correction-is lower t = is-over _ _ (omega arith)
+correction-is upper t = is-over _ _ (omega arith)
+
+pub one-at-fit : OneAtFit
+unfolding correction _over_ whole
+one-at-fit lower = record { left-over = omega arith; right-over = omega arith; cross = refl }
+one-at-fit upper = record { left-over = omega arith; right-over = omega arith; cross = refl }
 
 sum-held : (s : Side) (es : Entries) → sumOf s (blendOf es) ≡ sum (weighs s) es
 sum-held lower es = refl

@@ -2,14 +2,14 @@
 use mathlib.Core.Bool.{Bool}
 use mathlib.Core.Option.{Option, Option·getD}
 use Prim.Native.Nat.{ℕ, _+_, _*_, _-_}
-use lib.IntN.{ℤ, pos}
+use lib.IntN.{ℤ, pos, natAbs}
 use Rattle.answer.specs.Outside.{outside}
-use Rattle.rounding.specs.Fraction.{Fraction, _over_}
-use Rattle.blend.specs.Limit.{Side, lower, upper}
+use Rattle.rounding.specs.Fraction.{Fraction, _over_, whole, _≃_}
+use Rattle.blend.specs.Limit.{Side, lower, upper, fitTemperature}
 
--- 25 °C, in hundredths: the temperature that is meant where none is named
+-- 20 °C, in hundredths: the temperature that is meant where none is named (change request i)
 abbrev pub usualTemperature : ℤ
-usualTemperature = pos 2500
+usualTemperature = pos 2000
 
 abbrev pub meant : Option ℤ → ℤ
 meant t = Option·getD t usualTemperature
@@ -22,3 +22,7 @@ gasOutside t = outside (pos 0) (pos 20000) t
 unfoldable pub correction : Side → ℕ → Fraction
 correction lower t = (1277 * 100 - t) over (1252 * 100)
 correction upper t = (t + 787 * 100) over (812 * 100)
+
+-- it is exactly 1 at the temperature of the fit
+abbrev pub OneAtFit : Type 0
+OneAtFit = (s : Side) → correction s (natAbs fitTemperature) ≃ whole 1

@@ -9,6 +9,7 @@ ghost use Rattle.answer.specs.Outcome.{refused, answered, refusal, unless};
 ghost use Rattle.rounding.specs.Round.{roundDiv};
 ghost use Rattle.elements.specs.Elements.{each, firstAbove, weightedSum};
 ghost use Rattle.blend.specs.Limit.{lower, upper};
+ghost use Rattle.blend.specs.Temperature.{OneAtFit};
 ghost use Rattle.blend.specs.Fuel.{counts, text as fuel-text, admitting, molarMass, masses, InHalves};
 ghost use Rattle.blend.specs.Blend.{emptyBlend, weight, within, withFuel, together, taking, adding, joining, limits as asked-limits, asking, limitsAt, shownBlend, shownLimits};
 ghost use Rattle.blend.specs.Calls.{Call};
@@ -50,8 +51,8 @@ pub struct Limits {
 // 25 °C: the temperature at which the limits' formulas were fitted.
 pub const FIT_TEMPERATURE: i64 = 2500;
 
-// 25 °C: the temperature that is meant where none is named.
-pub const USUAL_TEMPERATURE: i64 = 2500;
+// 20 °C: the temperature that is meant where none is named.
+pub const USUAL_TEMPERATURE: i64 = 2000;
 
 // The molar masses of C H O N S P F Cl Br Si in halves of g/mol; an element without a mass here is not admitted.
 const MASSES: [u8; 10] = [24, 2, 32, 28, 0, 0, 0, 71, 0, 0];
@@ -259,10 +260,11 @@ pub fn join_blends(b: Blend, other: Blend) -> Blended
     changed(with_blend(b, other))
 }
 
-// Both limits at a temperature in hundredths of a degree, at most 100.00 %. Refusals 28, 9, 10.
+// Both limits at a temperature in hundredths of a degree, at most 100.00 %; at that of the fit no correction is applied. Refusals 28, 9, 10.
 pub fn blend_limits_at(b: Blend, temperature: i64) -> Limits
     ensures { λ r. ⌜ r ≡ shownLimits (asking b (asked-limits (some temperature))) ⌝ }
     ensures at_most { λ r. ⌜ (r .lower ≤ 10000) × (r .upper ≤ 10000) ⌝ }
+    ensures at_fit { λ _. ⌜ OneAtFit ⌝ }
 {
     if !is_within(b) {
         return no_limits(answer::BLEND_OUT_OF_BOUNDS, 0);

@@ -216,6 +216,7 @@ fn fuel_limits() {
     show_fuel_at(b"CH4", -1);
     show_fuel_at(b"CH3Cl", 2000);
     show_usual(b"CH4");
+    show_usual(b"C6H6");
 }
 
 // Shows what was answered, and hands the blend on.
@@ -250,6 +251,8 @@ fn blends() {
     let some = show_added(empty, b"C3H8", 300000);
     let full = show_added(some, b"C2H6", 700000);
     show_blend(full);
+    show(b"with no temperature named: ");
+    show_limits(blend::blend_limits(full));
     let same = show_added(full, b"CH4", 1);
     show_blend(same);
     show_added(same, b"CH4", 0);
@@ -258,8 +261,6 @@ fn blends() {
     show_blend(joined);
     show(b"at 200.01: ");
     show_limits(blend::blend_limits_at(joined, 20001));
-    show(b"with no temperature named: ");
-    show_limits(blend::blend_limits(joined));
     let nonsense = Blend {
         total: 1,
         lower: 9020,

@@ -11,6 +11,7 @@ ghost use Rattle.hill.specs.Writing.{formulaWritten, roomAfter};
 ghost use Rattle.hill.specs.RoundTrip.{RoundTrip};
 ghost use Rattle.oxygen.specs.Admission.{oxygenCoefficient};
 ghost use Rattle.oxygen.specs.Stoichiometric.{stoichiometricFraction};
+ghost use Rattle.blend.specs.Temperature.{OneAtFit};
 ghost use Rattle.blend.specs.Fuel.{text as fuel-text};
 ghost use Rattle.blend.specs.Blend.{blend as blend-of, emptyBlend, adding, joining, limits as asked-limits, asking, shownBlend, shownLimits};
 ghost use Rattle.blend.specs.Calls.{Call};
@@ -190,6 +191,7 @@ pub extern "C" fn jlw_blend_limits_at(
 ) -> Limits
     ensures { λ r. ⌜ r ≡ shownLimits (asking (blend-of total lower upper) (asked-limits (some temperature))) ⌝ }
     ensures at_most { λ r. ⌜ (r .lower ≤ 10000) × (r .upper ≤ 10000) ⌝ }
+    ensures at_fit { λ _. ⌜ OneAtFit ⌝ }
 {
     blend::blend_limits_at(
         Blend {

@@ -16,7 +16,7 @@ use Rattle.blend.specs.Fuel.{Fuel, fuelAtoms}
 use Rattle.blend.specs.Blend.{LimitPair, limits, emptyBlend, adding, asking}
 use Rattle.blend.specs.Model.{modelAdds, modelAsks}
 
--- 100 / (aβ + b) % at 25 °C, times the correction for t, of β in quarters; in hundredths of a percent, rounded once
+-- 100 / (aβ + b) %, the limit at the temperature of the fit, times the correction for t, of β in quarters; in hundredths of a percent, rounded once
 unfoldable pub fuelFigure : Side → ℕ → ℕ → ℕ
 fuelFigure s q t = figure (whole 100 ⊠ (limitOf s q ⊠ correction s t))
 

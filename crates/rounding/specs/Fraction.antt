@@ -1,5 +1,6 @@
 -- Exact fractions of whole numbers, with operations under names of their own, and the figure that one is answered as.
 -- A fraction over 0 stands for no number; no law speaks of one.
+use mathlib.Core.Path.{_≡_}
 use mathlib.Core.Bool.{Bool}
 use Prim.Native.Nat.{ℕ, _+_, _*_, _≤_, _<_}
 use lib.Dec.{leb}
@@ -9,7 +10,7 @@ pub record Fraction : Type 0 where
   pub num : ℕ
   pub den : ℕ
 
-infix 50 _⊑_ _⊏_
+infix 50 _⊑_ _⊏_ _≃_
 infix 60 _over_
 infixl 70 _⊞_
 infixl 75 _⊠_ _⊘_
@@ -41,6 +42,10 @@ _⊑_ f g = Compares (λ m n. m ≤ n) f g
 
 abbrev pub _⊏_ : Fraction → Fraction → Type 0
 _⊏_ f g = Compares (λ m n. m < n) f g
+
+-- exactly equal
+abbrev pub _≃_ : Fraction → Fraction → Type 0
+_≃_ f g = Compares (λ m n. m ≡ n) f g
 
 -- at most, as a test of fractions that are not over 0
 unfoldable pub atMost : Fraction → Fraction → Bool

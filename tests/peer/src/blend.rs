@@ -5,8 +5,8 @@ use crate::limits::{admit, Pair, LIMITS};
 use crate::refusal::{refuse_if, round_div, Answer};
 
 pub const MOST_PARTS: u64 = 1_000_000;
-/// Meant where no temperature is named.
-pub const USUAL_TEMPERATURE: i64 = 2_500;
+/// 20 degrees, the hall's: meant where no temperature is named.
+pub const USUAL_TEMPERATURE: i64 = 2_000;
 
 /// The extremes of admitted fuels, in the units of the sums.
 const LOWER: (u64, u64) = (9_021, 2_175_679);

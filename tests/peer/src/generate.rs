@@ -353,7 +353,7 @@ pub fn fuel_text(random: &mut Random) -> Vec<u8> {
 
 pub fn temperature(random: &mut Random) -> i64 {
     match random.below(4) {
-        0 => random.pick(&[-1, 0, 1, 2_500, 13_400, 19_999, 20_000, 20_001, -20_000, i64::MIN, i64::MAX]),
+        0 => random.pick(&[-1, 0, 1, 2_000, 2_500, 13_400, 19_999, 20_000, 20_001, -20_000, i64::MIN, i64::MAX]),
         1 => random.within(-2_000, 22_000),
         _ => random.within(0, 20_000),
     }

@@ -13,6 +13,7 @@ use Rattle.blend.specs.declared.Limits.{Limits}
 use Rattle.blend.specs.Temperature.{gasOutside}
 use Rattle.blend.specs.Blend.{within, limitsAt, telling, asking, shownLimits}
 use Rattle.blend.proofs.Bounds.{within-facts}
+use Rattle.blend.proofs.LeChatelier.{one-at-fit}
 use Rattle.blend.proofs.Figures.{lower-most, upper-most}
 use Rattle.blend.proofs.blend_limits_at.Statement.{statement}
 use Rattle.blend.proofs.blend_limits_at.Tie as tie
@@ -35,14 +36,14 @@ gas c = rw (toZ-ofZ (c .before .before .before .before .before .fits .temperatur
 
 returns : tie.Need-returns
 unfolding asking
-returns c = let e = c .no-limits .ensures in rw (beyond (c .before)) (e, none _ _ _ e)
+returns c = let e = c .no-limits .ensures in rw (beyond (c .before)) (e, (none _ _ _ e, one-at-fit))
 
 returns-2 : tie.Need-returns-2
 unfolding asking
 returns-2 c =
     let i = c .before .before .before in
     let e = c .no-limits2 .ensures in
-    rw (inside i, eq-eqb (i .before .before .args .b .total) 0 (omega arith)) (e, none _ _ _ e)
+    rw (inside i, eq-eqb (i .before .before .args .b .total) 0 (omega arith)) (e, (none _ _ _ e, one-at-fit))
 
 module _ (c : tie.Else2) where
   some : eqb (c .before .before .before .before .args .b .total) 0 ≡ false
@@ -53,7 +54,7 @@ unfolding asking telling
 returns-3 c =
     let i = c .before .before .before in
     let e = c .no-limits3 .ensures in
-    rw (inside (i .before .before), some i, sym (gas (c .before .before)) ∙ c .before .if3 .taken) (e, none _ _ _ e)
+    rw (inside (i .before .before), some i, sym (gas (c .before .before)) ∙ c .before .if3 .taken) (e, (none _ _ _ e, one-at-fit))
 
 warm : (c : tie.Else3) → gasOutside (c .before .before .before .before .before .before .args .temperature) ≡ false
 warm c = sym (gas (c .before)) ∙ c .if3 .left
@@ -79,7 +80,7 @@ returns-4 c =
     let w = within-facts _ (inside (i .before .before)) in
     let made = c .limits-from .ensures in
     let most : Most (c .limits-from .result) = rw made (lower-most b (z .size .result) w (omega arith) (admitted z), upper-most b (z .size .result) w (omega arith) (admitted z)) in
-    rw (inside (i .before .before), some i, warm (z .before)) (made ∙ ap (λ (t : ℕ). shownLimits (answered (limitsAt b t))) (sized z), most)
+    rw (inside (i .before .before), some i, warm (z .before)) (made ∙ ap (λ (t : ℕ). shownLimits (answered (limitsAt b t))) (sized z), (most, one-at-fit))
 
 pub blend-limits-at-spec : {M : Type 1} → statement M
 blend-limits-at-spec =

@@ -1,5 +1,5 @@
 -- `fuel_limits_at` meets its contract: a blend of the fuel at 1 part is refused, or is asked.
-use mathlib.Core.Path.{_≡_, ap, _∙_}
+use mathlib.Core.Path.{_≡_}
 use mathlib.Core.Option.{some}
 use native.Mathlib.Omega.{arith}
 use mir.Facts.{toZ-ofZ}
@@ -40,7 +40,7 @@ returns-2 c =
     let z = c .before .before in
     let e = rw (toZ-ofZ (z .before .before .before .before .before .fits .temperature)) at (c .blend-limits-at .ensures) in
     let b = single (z .before .before .before) in
-    (rw (b .of-blend, taken z) (e .0), (e .1, b))
+    (rw (b .of-blend, taken z) (e .0), (e .1 .0, b))
 
 pub fuel-limits-at-spec : {M : Type 1} → statement M
 fuel-limits-at-spec =

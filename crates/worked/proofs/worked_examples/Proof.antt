@@ -1,11 +1,14 @@
--- The worked examples, by computing each answer on the definitions.
+-- The worked examples, by computing each answer on the definitions: their number, then a `refl` for each of the first ten and of those behind.
 use mathlib.Core.Path.{refl}
 use mathlib.Core.Option.{Option·elim}
+use lib.ListN.{drop}
 use Rattle.answer.specs.Lowest.{lowest}
 use Rattle.answer.specs.Outside.{outside}
 use Rattle.rounding.specs.Round.{roundDiv, roundDivℤ}
 use Rattle.rounding.specs.Fraction.{_over_, whole, _⊞_, _⊠_, _⊘_, figure, atMost}
-use Rattle.text.specs.Decimal.{digitFrom}
+use Rattle.text.specs.Decimal.{decimal, digitFrom}
+use Rattle.csv.specs.Lines.{crlf, comma, lines, fields, before, all, plain}
+use Rattle.csv.specs.Sheet.{headed, records, formed, goodRecord}
 use Rattle.elements.specs.Elements.{firstAbove}
 use Rattle.formula.specs.Reader.{symbolOf, multipleOf, readItem, readItems}
 use Rattle.formula.specs.Reading.{reading}
@@ -14,7 +17,8 @@ use Rattle.oxygen.specs.Admission.{notAdmitted, admission}
 use Rattle.oxygen.specs.Stoichiometric.{stoichiometric, stoichiometricFraction}
 use Rattle.blend.specs.Limit.{slope, constant, divisor, limitOf}
 use Rattle.blend.specs.Temperature.{correction}
-use Rattle.blend.specs.Fuel.{molarMass}
+use Rattle.blend.specs.Fuel.{molarMass, admitting}
+use Rattle.blend.specs.Blend.{held, weight, sumWithin, within, taking, adding, blendLimit, telling, asking}
 use Rattle.limits.specs.FuelLimits.{fuelFigure, fuelLimits}
 use Rattle.limits.specs.Concentration.{molarVolume, concentration, massConcentration}
 use Rattle.bonds.specs.Kinds.{aboveAt, hydrogenUnbalanced}
@@ -23,6 +27,9 @@ use Rattle.flash.specs.Points.{missing, noCoefficientAt, lineTerms, bondTerm, t
 use Rattle.curve.specs.Smallest.{smallest, searched}
 use Rattle.curve.specs.Curve.{sizes, outOfRange, rising, badPoint, firstBadPoint, accepting, between, segmentOf, pressureAt, onCurve}
 use Rattle.ignition.specs.Questions.{partOfPressure, reaches, withLimit, lowerTemperatureLimit, threshold, product, ignites, withOxygen, flashByCurve}
+use Rattle.sheet.specs.Mixture.{isParts, spelledFrom, addingAll, sheetAnswer}
+use Rattle.sheet.specs.Answer.{percent, limitsLine, answerLine, answerText}
+use Rattle.worked.specs.Worked.{examples, AsPrinted}
 use Rattle.worked.proofs.worked_examples.Statement.{statement}
 use Rattle.worked.proofs.worked_examples.Tie as tie
 
@@ -33,7 +40,12 @@ unfolding reading readItems readItem symbolOf multipleOf digitFrom firstAbove lo
     aboveAt hydrogenUnbalanced Option·elim coefficients methods missing noCoefficientAt lineTerms bondTerm terms sumFrom byBonds
     smallest searched sizes outOfRange rising badPoint firstBadPoint accepting between segmentOf pressureAt onCurve
     partOfPressure reaches withLimit lowerTemperatureLimit threshold product ignites withOxygen flashByCurve
-returns c = (refl, refl)
+    admitting held weight sumWithin within taking adding blendLimit telling asking
+    crlf comma lines fields before all plain headed records formed goodRecord isParts spelledFrom addingAll sheetAnswer
+    decimal percent limitsLine answerLine answerText
+returns c =
+    let later : AsPrinted (drop 10 examples) = (refl, (refl, (refl, (refl, (refl, (refl, (refl, (refl, (refl, (refl, (refl, tt))))))))))) in
+    (refl, (refl, (refl, (refl, (refl, (refl, (refl, (refl, (refl, (refl, (refl, later)))))))))))
 
 pub worked-examples-spec : {M : Type 1} → statement M
 worked-examples-spec = tie.close (tie.spec returns)

@@ -40,11 +40,14 @@ fn texts() {
 
 fn fuels() {
     same("CH4", limits::fuel_limits_of_text_at(b"CH4", FIT_TEMPERATURE), pair(454, 2_732));
+    same("CH4, none named", limits::fuel_limits_of_text(b"CH4"), pair(455, 2_715));
     same("CH4 fraction", limits::stoichiometric_fraction_of_text(b"CH4"), Ok(936));
     same("CH4 at 134", limits::fuel_limits_of_text_at(b"CH4", 13_400), pair(414, 3_099));
+    same("CH4 at 116.30", limits::fuel_limits_of_text_at(b"CH4", 11_630), pair(421, 3_039));
     same("CH4 mass", limits::mass_concentration_of_text(b"CH4", 13_400), pair(1_983, 14_841));
     same("CH3Cl mass", limits::mass_concentration_of_text(b"CH3Cl", 2_000), pair(11_903, 72_322));
     same("C6H6", limits::fuel_limits_of_text_at(b"C6H6", FIT_TEMPERATURE), pair(143, 821));
+    same("C6H6, none named", limits::fuel_limits_of_text(b"C6H6"), pair(144, 816));
     same("C7H8", limits::fuel_limits_of_text_at(b"C7H8", FIT_TEMPERATURE), pair(121, 743));
     same("CO2", limits::fuel_limits_of_text_at(b"CO2", FIT_TEMPERATURE), refuse(4, 0));
     let full = Blend::EMPTY.add(&counts("CH4"), 1_000_000);
@@ -88,8 +91,8 @@ fn readings() {
 }
 
 fn sheets() {
-    same("sheet", sheet::answer(b"formula,parts\r\nC3H8,300000\r\nC2H6,700000\r\n"), pair(257, 1_496));
+    same("sheet", sheet::answer(b"formula,parts\r\nC3H8,300000\r\nC2H6,700000\r\n"), pair(258, 1_487));
     let mut room = [0; 43];
-    same("its length", sheet::write_answer(pair(257, 1_496), &mut room), Ok(43));
-    same("its text", Ok(&room[..]), Ok(&b"answer,record,lower,upper\r\n0,0,2.57,14.96\r\n"[..]));
+    same("its length", sheet::write_answer(pair(258, 1_487), &mut room), Ok(43));
+    same("its text", Ok(&room[..]), Ok(&b"answer,record,lower,upper\r\n0,0,2.58,14.87\r\n"[..]));
 }

@@ -125,7 +125,7 @@ fn every_byte_damaged(source: &mut Source, one: &mut impl FnMut(&mut Source, &[u
 fn number(random: &mut Random) -> u64 {
     let shift = random.below(64);
     match random.below(4) {
-        0 => random.pick(&[0, 1, 5, 9, 10, 99, 100, 101, 257, 1_496, 9_999, 10_000, u64::MAX, u64::MAX - 1]),
+        0 => random.pick(&[0, 1, 5, 9, 10, 99, 100, 101, 258, 1_487, 9_999, 10_000, u64::MAX, u64::MAX - 1]),
         1 => random.below(10_000),
         _ => random.next() >> shift,
     }
