@@ -222,7 +222,7 @@ static void test_limits(void)
     CHECK(limits_refused(jlw_fuel_limits(TEXT("CS2Cl2")), 3, 5));
     CHECK(limits_refused(jlw_fuel_limits(NO_TEXT), 1, 0));
     CHECK(limits_are(jlw_fuel_limits_at(TEXT("CH4"), 13400), 414, 3099));
-    CHECK(limits_are(jlw_fuel_limits_at(TEXT("CH4"), 11630), 421, 3039));
+    CHECK(limits_are(jlw_fuel_limits_at(TEXT("CH3Cl"), 18530), 492, 4150));
     CHECK(answered(jlw_fuel_limits_at(TEXT("CH4"), 0).refusal) && answered(jlw_fuel_limits_at(TEXT("CH4"), 20000).refusal));
     CHECK(limits_refused(jlw_fuel_limits_at(TEXT("CH4"), -1), 10, 0));
     CHECK(limits_refused(jlw_fuel_limits_at(TEXT("CH4"), 20001), 10, 0));

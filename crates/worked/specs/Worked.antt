@@ -103,7 +103,7 @@ examples =
     ∷ record { asked = limitsUsual "CH4"; printed = figures (455 ∷ 2715 ∷ []) }
     ∷ record { asked = fraction "CH4"; printed = figures (936 ∷ []) }
     ∷ record { asked = limitsAt "CH4" 13400; printed = figures (414 ∷ 3099 ∷ []) }
-    ∷ record { asked = limitsAt "CH4" 11630; printed = figures (421 ∷ 3039 ∷ []) }
+    ∷ record { asked = limitsAt "CH3Cl" 18530; printed = figures (492 ∷ 4150 ∷ []) }
     ∷ record { asked = concentrations "CH4" 13400; printed = figures (1983 ∷ 14841 ∷ []) }
     ∷ record { asked = concentrations "CH3Cl" 2000; printed = figures (11903 ∷ 72322 ∷ []) }
     ∷ record { asked = coefficient "C6H6"; printed = figures (30 ∷ []) }

@@ -43,7 +43,7 @@ fn fuels() {
     same("CH4, none named", limits::fuel_limits_of_text(b"CH4"), pair(455, 2_715));
     same("CH4 fraction", limits::stoichiometric_fraction_of_text(b"CH4"), Ok(936));
     same("CH4 at 134", limits::fuel_limits_of_text_at(b"CH4", 13_400), pair(414, 3_099));
-    same("CH4 at 116.30", limits::fuel_limits_of_text_at(b"CH4", 11_630), pair(421, 3_039));
+    same("CH3Cl at 185.30", limits::fuel_limits_of_text_at(b"CH3Cl", 18_530), pair(492, 4_150));
     same("CH4 mass", limits::mass_concentration_of_text(b"CH4", 13_400), pair(1_983, 14_841));
     same("CH3Cl mass", limits::mass_concentration_of_text(b"CH3Cl", 2_000), pair(11_903, 72_322));
     same("C6H6", limits::fuel_limits_of_text_at(b"C6H6", FIT_TEMPERATURE), pair(143, 821));
