@@ -9,8 +9,8 @@ use lib.Ieee.{Float, binary64, ofBits}
 use lib.Ieee.Positive.{num, den, den-pos}
 use borrow.Author.Tests.{leb-true}
 use Rattle.answer.proofs.Tests.{both}
-use Rattle.rounding.specs.Round.{roundDiv}
-use Rattle.rounding.specs.Fraction.{Fraction, _over_, whole, _⊠_, _⊑_, atMost, figure}
+use Rattle.rounding.specs.Round.{roundedValue, roundDiv}
+use Rattle.rounding.specs.Fraction.{Fraction, _over_, whole, _⊠_, _⊑_, atMost, rounded, figure}
 use Rattle.rounding.proofs.Fractions.{Is, is-over, is-whole, is-times, at-most-is, at-most-values, at-most-trans, figure-mono}
 use Rattle.analyser.specs.declared.Method.{Method}
 use Rattle.analyser.specs.Reading.{isAmount, amount, upTo, goodMethod}
@@ -50,9 +50,9 @@ module _ (top : Float) (m : Method) (good : goodMethod (amount top) m ≡ true) 
       let l : scale * num x * d ≤ 1000000 * den x * d = omega (arith, mul-le-mul-left scale le, ap (λ (z : ℕ). z * den x) (t .million)) in
       at-most-is (is-times (is-whole scale) (amount-is x)) (is-whole 1000000) (omega (arith, le-of-mul-le-mul-right l (den-pos top)))
 
-pub figure-most : (f : Fraction) → f ⊑ whole 1000000 → figure f ≤ 1000000
-unfolding figure roundDiv whole
-figure-most f h = figure-mono h
+pub rounded-most : (f : Fraction) → f ⊑ whole 1000000 → rounded f .value ≤ 1000000
+unfolding figure rounded roundDiv roundedValue whole
+rounded-most f h = figure-mono h
 
 -- THE CODE'S CONSTANTS, by their bits
 pub hundred-is : amount (ofBits binary64 0x4059_0000_0000_0000) ≡ whole 100

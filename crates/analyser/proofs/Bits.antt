@@ -2,20 +2,25 @@
 use mathlib.Core.Path.{_≡_, refl, sym, ap, _∙_, subst}
 use mathlib.Core.Bool.{Bool, true, false, not, cond}
 use Prim.Native.Nat.{ℕ, zero, suc, _+_, _-_, _*_, _/_, _%_, _^_, _≤_, _<_}
-use native.Mathlib.Nat.{mul-comm, mul-assoc, mul-left-comm, one-mul, mul-one, mul-le-mul-left, mul-le-mul-right, le-of-lt, le-of-eq, le-trans, lt-of-lt-of-le, lt-of-le-of-lt, lt-of-not-le, lt-irrefl, mod-lt}
+use native.Mathlib.Nat.{mul-comm, mul-assoc, mul-left-comm, one-mul, mul-one, mul-le-mul-left, mul-le-mul-right, le-of-lt, le-of-eq, le-trans, lt-of-lt-of-le, lt-of-le-of-lt, lt-of-not-le, lt-irrefl, mod-lt, mul-pos}
+use native.Mathlib.Decide.{decLt}
 use native.Mathlib.Omega.{arith}
+use borrow.Author.Tests.{eqb-true, eqb-false}
 use lib.Dec.{T, leb, eqb, lit<}
 use lib.Pow.{pow-add, pow-pos, pow-mono, shl-lt, shl-exact, mod-mod-pow}
 use lib.Ieee.{Float, nan, inf, fin, binary64, odd, fits, isNan, ofFields, ofBits, toBits}
 use lib.Ieee.Bits.{ofBits-toBits}
 use lib.Ieee.Digits.{Equals, odd-val}
 use lib.Ieee.Positive.{num, den, den-pos}
+use Rattle.answer.specs.declared.Rounded.{Rounded}
+use Rattle.answer.specs.Marks.{exact, lowered}
 use Rattle.rounding.specs.Round.{roundDiv}
-use Rattle.rounding.specs.Fraction.{whole, _⊠_, figure}
+use Rattle.rounding.specs.Rounds.{Marked, is-exact, is-lowered}
+use Rattle.rounding.specs.Fraction.{whole, _⊠_, rounded}
 use Rattle.rounding.proofs.Rounding.{round-none}
-use Rattle.rounding.proofs.Fractions.{Is, is-over, is-whole, is-times, is-same, at-most-values, figure-is}
+use Rattle.rounding.proofs.Fractions.{Is, is-over, is-whole, is-times, is-same, at-most-values, rounded-is}
 use Rattle.analyser.specs.Reading.{isAmount, amount}
-use Rattle.analyser.specs.Internal.{Scaled}
+use Rattle.analyser.specs.Internal.{Scaled, belowHalf}
 
 -- what the fields f of the exponent and t of the significand say of x: it is q · 2 ^ j units of 2 ^ −1074
 record Read (f t : ℕ) (x : Float) : Type 0 where
@@ -24,6 +29,7 @@ record Read (f t : ℕ) (x : Float) : Type 0 where
   value : num x * 2 ^ 1074 ≡ q * 2 ^ j * den x
   q-lt : q < 2 ^ 53
   j-is : j ≡ f - 1
+  bare : f ≡ 0 → q ≡ t
   lead : 0 < f → q ≡ t + 2 ^ 52
 
 units : (x : Float) (a : ℕ) → Equals x a (2 ^ 1074) → num x * 2 ^ 1074 ≡ a * den x
@@ -45,6 +51,7 @@ of-fields s zero t h p = record {
   value = units (odd 53 s t 0 1074) (t * 2 ^ 0) (odd-val 53 s t 0 1074);
   q-lt = omega arith;
   j-is = omega arith;
+  bare = λ z. refl;
   lead = λ z. absurd (lt-irrefl 0 z);
 }
 of-fields s (suc f) t h p =
@@ -56,6 +63,7 @@ of-fields s (suc f) t h p =
       value = units v ((2 ^ 52 + t) * 2 ^ f) (odd-val 53 s (2 ^ 52 + t) f 1074);
       q-lt = omega arith;
       j-is = omega arith;
+      bare = λ (z : suc f ≡ 0). absurd (omega arith);
       lead = λ z. omega arith;
     })
 
@@ -83,10 +91,10 @@ no-nan (inf s) p = tt
 no-nan (fin s m e) p = tt
 
 -- what the code computes from the fields, and its answer
-pub record Shifted (f t factor twos : ℕ) (exact : ℕ) : Type 0 where
+pub record Shifted (f t factor twos : ℕ) (parts : Rounded) : Type 0 where
   pub under : f + twos < 1043
   pub product : (t + 2 ^ 52) * factor < 2 ^ 63
-  pub is : (p k : ℕ) → p ≡ (t + 2 ^ 52) * factor → k ≡ 1075 - f - twos → roundDiv p (1 * 2 ^ k % 2 ^ 64) ≡ exact
+  pub is : (p k : ℕ) → p ≡ (t + 2 ^ 52) * factor → k ≡ 1075 - f - twos → roundDiv p (1 * 2 ^ k % 2 ^ 64) ≡ parts
 
 module _ (x : Float) (factor twos : ℕ) (held : T (fits binary64 x)) (pre : Scaled x factor twos) where
   abbrev f : ℕ
@@ -95,8 +103,8 @@ module _ (x : Float) (factor twos : ℕ) (held : T (fits binary64 x)) (pre : Sca
   abbrev t : ℕ
   t = fraction (toBits binary64 x)
 
-  abbrev exact : ℕ
-  exact = figure (whole (factor * 2 ^ twos) ⊠ amount x)
+  abbrev parts : Rounded
+  parts = rounded (whole (factor * 2 ^ twos) ⊠ amount x)
 
   r : Read f t x
   r = read x held (pre .is-amount)
@@ -118,11 +126,32 @@ module _ (x : Float) (factor twos : ℕ) (held : T (fits binary64 x)) (pre : Sca
       ∙ ap (λ (z : ℕ). factor * 2 ^ twos * z) (r .value)
       ∙ simp (pow-add, one-mul, mul-assoc, mul-comm, mul-left-comm))
 
-  pub below-half : f + twos < 1012 → 0 ≡ exact
+  -- the bits behind the sign's, which are 0 for zero alone
+  abbrev size : ℕ
+  size = toBits binary64 x % 2 ^ 63
+
+  q-zero : size ≡ 0 → r .q ≡ 0
+  q-zero z = omega (arith, r .bare (omega (arith, z)))
+
+  q-positive : (size ≡ 0 → ⊥) → 0 < r .q
+  q-positive z = go (decLt 0 f)
+    where
+      go : Dec (0 < f) → 0 < r .q
+      go (yes l) = omega (arith, r .lead l)
+      go (no l) = omega (arith, z, r .bare (omega arith))
+
+  mark-is : (b : Bool) → eqb size 0 ≡ b → Marked (n * 2 ^ e) (2 ^ 1074) 0 (cond b exact lowered)
+  mark-is true h = is-exact (sym (ap (λ (z : ℕ). z * factor * 2 ^ e) (q-zero (eqb-true size 0 h)) ∙ zero-products))
+    where
+      zero-products : 0 * factor * 2 ^ e ≡ 0
+      zero-products = omega arith
+  mark-is false h = is-lowered (mul-pos (mul-pos (q-positive (eqb-false size 0 h)) (pre .scale .positive)) (pow-pos e))
+
+  pub below-half : f + twos < 1012 → belowHalf size ≡ parts
   below-half h =
       let le : 64 + e ≤ 1074 = omega (arith, r .j-is, pre .scale .small-twos) in
       let lt : 2 * n * 2 ^ e < 2 ^ 1074 = lt-of-lt-of-le (shl-lt 64 e (omega (arith, n-lt))) (pow-mono le) in
-      round-none (n * 2 ^ e) (2 ^ 1074) (subst (λ (z : ℕ). z < 2 ^ 1074) (mul-assoc 2 n (2 ^ e)) lt) ∙ sym (figure-is in-units)
+      round-none (n * 2 ^ e) (2 ^ 1074) _ (subst (λ (z : ℕ). z < 2 ^ 1074) (mul-assoc 2 n (2 ^ e)) lt) (mark-is (eqb size 0) refl) ∙ sym (rounded-is in-units)
 
   -- from there on the leading bit is there
   module _ (big : 1012 ≤ f + twos) where
@@ -141,12 +170,12 @@ module _ (x : Float) (factor twos : ℕ) (held : T (fits binary64 x)) (pre : Sca
     s = 1075 - f - twos
 
     -- the common power of two is taken out
-    shifted : exact ≡ roundDiv n (2 ^ s)
+    shifted : parts ≡ roundDiv n (2 ^ s)
     shifted =
         let all : e + s ≡ 1074 = omega (arith, under, r .j-is) in
-        figure-is (is-same in-units (pow-pos s) (mul-assoc n (2 ^ e) (2 ^ s) ∙ ap (λ (z : ℕ). n * z) (sym (pow-add 2 e s) ∙ ap (λ (z : ℕ). 2 ^ z) all)))
+        rounded-is (is-same in-units (pow-pos s) (mul-assoc n (2 ^ e) (2 ^ s) ∙ ap (λ (z : ℕ). n * z) (sym (pow-add 2 e s) ∙ ap (λ (z : ℕ). 2 ^ z) all)))
 
-    pub facts : Shifted f t factor twos exact
+    pub facts : Shifted f t factor twos parts
     facts = record {
       under = under;
       product = subst (λ (z : ℕ). z * factor < 2 ^ 63) lead n-lt;

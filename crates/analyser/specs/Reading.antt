@@ -7,7 +7,9 @@ use lib.Ieee.{Float, nan, inf, fin}
 use lib.Ieee.Positive.{num, den}
 use Rattle.answer.specs.Numbers.{badReading}
 use Rattle.answer.specs.Outcome.{Outcome, refused, answered, refusal, refuse}
-use Rattle.rounding.specs.Fraction.{Fraction, _over_, whole, _⊠_, atMost, figure}
+use Rattle.answer.specs.declared.Rounded.{Rounded}
+use Rattle.answer.specs.Marks.{exact}
+use Rattle.rounding.specs.Fraction.{Fraction, _over_, whole, _⊠_, atMost, rounded}
 use Rattle.analyser.specs.declared.Method.{Method}
 use Rattle.analyser.specs.declared.Reading.{Reading}
 use Rattle.analyser.specs.declared.Reading.the-variants.{Percent, Ppm, Overload}
@@ -36,23 +38,23 @@ methodOf limit ceiling = record { limit = limit; ceiling = ceiling }
 unfoldable pub goodMethod : Fraction → Method → Bool
 goodMethod top m = upTo (m .ceiling) top && upTo (m .limit) (amount (m .ceiling))
 
--- the parts of a reading of x units of `scale` parts: rounded from the exact value, and none below the limit
-unfoldable pub converted : ℕ → Method → Float → ℕ
-converted scale m x = cond (atMost (amount (m .limit)) (amount x)) (figure (whole scale ⊠ amount x)) 0
+-- the parts of a reading of x units of `scale` parts: rounded from the exact value; below the limit none, exactly
+unfoldable pub converted : ℕ → Method → Float → Rounded
+converted scale m x = cond (atMost (amount (m .limit)) (amount x)) (rounded (whole scale ⊠ amount x)) (record { value = 0; mark = exact })
 
 -- the answer to such a reading, by a method whose ceiling is at most `top`
-unfoldable pub measured : Fraction → ℕ → Method → Float → Outcome ℕ
+unfoldable pub measured : Fraction → ℕ → Method → Float → Outcome Rounded
 measured top scale m x =
     refuse badReading 0 (not (goodMethod top m))
     (refuse badReading 1 (not (upTo x (amount (m .ceiling))))
     (answered (converted scale m x)))
 
 -- the answer to an overload: its method is in parts per million, and no overload is admitted
-unfoldable pub overloaded : Method → Outcome ℕ
+unfoldable pub overloaded : Method → Outcome Rounded
 overloaded m = refuse badReading 0 (not (goodMethod (whole 1000000) m)) (refused (refusal badReading 1))
 
 -- the answer to any reading: a percent is 10,000 parts per million, and there are 100 of them
-unfoldable pub partsOf : Method → Reading → Outcome ℕ
+unfoldable pub partsOf : Method → Reading → Outcome Rounded
 partsOf m (Percent x) = measured (whole 100) 10000 m x
 partsOf m (Ppm x) = measured (whole 1000000) 1 m x
 partsOf m Overload = overloaded m

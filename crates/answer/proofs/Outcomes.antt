@@ -22,6 +22,11 @@ module _ {A : Type 0} where
   andThen-numbered (refused r) f h k = h
   andThen-numbered (answered a) f h k = k a
 
+  -- an answer asked further behind a test
+  pub refuse-then : {B : Type 0} (n p : ℕ) (b : Bool) (o : Outcome A) (f : A → Outcome B) → andThen (refuse n p b o) f ≡ refuse n p b (andThen o f)
+  refuse-then n p true o f = refl
+  refuse-then n p false o f = refl
+
   -- told by the number
   pub told-refused : (o : Outcome A) → 0 < refusalOf o .number → o ≡ refused (refusalOf o)
   told-refused (refused r) l = refl

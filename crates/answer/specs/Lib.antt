@@ -1,4 +1,5 @@
 pub mod Numbers
+pub mod Marks
 pub mod Outcome
 pub mod Lowest
 pub mod Outside

@@ -7,6 +7,10 @@ use lib.IntN.{ℤ, pos}
 use Rattle.answer.specs.declared.Refusal.{Refusal}
 use Rattle.answer.specs.declared.Figure.{Figure}
 use Rattle.answer.specs.declared.Temperature.{Temperature}
+use Rattle.answer.specs.declared.Rounded.{Rounded}
+use Rattle.answer.specs.declared.RoundedSigned.{RoundedSigned}
+use Rattle.answer.specs.declared.RoundedFigure.{RoundedFigure}
+use Rattle.answer.specs.declared.RoundedTemperature.{RoundedTemperature}
 
 pub data Outcome (A : Type 0) : Type 0 where
   refused : Refusal → Outcome A
@@ -50,3 +54,16 @@ shownFigure o = record { refusal = refusalOf o; value = valueOf 0 o }
 
 abbrev pub shownTemperature : Outcome ℤ → Temperature
 shownTemperature o = record { refusal = refusalOf o; value = valueOf (pos 0) o }
+
+-- a rounded figure, and a rounded temperature: with a refusal value and mark are 0
+abbrev pub noFigure : Rounded
+noFigure = record { value = 0; mark = 0 }
+
+abbrev pub shownRounded : Outcome Rounded → RoundedFigure
+shownRounded o = record { refusal = refusalOf o; value = valueOf noFigure o .value; mark = valueOf noFigure o .mark }
+
+abbrev pub noTemperature : RoundedSigned
+noTemperature = record { value = pos 0; mark = 0 }
+
+abbrev pub shownRoundedTemperature : Outcome RoundedSigned → RoundedTemperature
+shownRoundedTemperature o = record { refusal = refusalOf o; value = valueOf noTemperature o .value; mark = valueOf noTemperature o .mark }

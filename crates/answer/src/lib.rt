@@ -1,7 +1,8 @@
-// What a question is answered with: a refusal, by a number of document 01's table and a place, or a figure or a temperature; numbers outside a range.
+// What a question is answered with: a refusal, by a number of document 01's table and a place, or a figure or a temperature, with a mark where it is rounded;
+// numbers outside a range.
 ghost use mathlib.Core.Path.{_≡_};
 ghost use lib.IntN.{pos};
-ghost use Rattle.answer.specs.Outcome.{refused, answered, refusal, unless, shownFigure, shownTemperature};
+ghost use Rattle.answer.specs.Outcome.{refused, answered, refusal, unless, shownFigure, shownTemperature, shownRounded, shownRoundedTemperature};
 ghost use Rattle.answer.specs.Outside.{outside};
 
 // A number of the table, and a place.
@@ -23,6 +24,35 @@ pub struct Figure {
 pub struct Temperature {
     pub refusal: Refusal,
     pub value: i64,
+}
+
+// A figure that was rounded, and its mark: how its size stands to that of the exact fraction.
+#[repr(C)]
+pub struct Rounded {
+    pub value: u64,
+    pub mark: u64,
+}
+
+#[repr(C)]
+pub struct RoundedSigned {
+    pub value: i64,
+    pub mark: u64,
+}
+
+// A rounded figure with its mark, or a refusal and zeros.
+#[repr(C)]
+pub struct RoundedFigure {
+    pub refusal: Refusal,
+    pub value: u64,
+    pub mark: u64,
+}
+
+// A temperature rounded to hundredths of a degree with its mark, or a refusal and zeros.
+#[repr(C)]
+pub struct RoundedTemperature {
+    pub refusal: Refusal,
+    pub value: i64,
+    pub mark: u64,
 }
 
 // What an answer has that is not refused.
@@ -70,6 +100,13 @@ pub const DIFFUSION_OUTSIDE: u64 = 18;
 
 pub const BLEND_OUT_OF_BOUNDS: u64 = 28;
 
+// The marks. specs/Marks.antt has the same names.
+pub const EXACT: u64 = 0;
+
+pub const RAISED: u64 = 1;
+
+pub const LOWERED: u64 = 2;
+
 // A figure, answered and refused.
 pub fn answered_figure(value: u64) -> Figure
     ensures { λ r. ⌜ r ≡ shownFigure (answered value) ⌝ }
@@ -115,6 +152,58 @@ pub fn refused_temperature(number: u64, place: u64) -> Temperature
     Temperature {
         refusal: Refusal { number, place },
         value: 0,
+    }
+}
+
+// A rounded figure, answered and refused.
+pub fn answered_rounded(figure: Rounded) -> RoundedFigure
+    ensures { λ r. ⌜ r ≡ shownRounded (answered figure) ⌝ }
+{
+    RoundedFigure {
+        refusal: NOT_REFUSED,
+        value: figure.value,
+        mark: figure.mark,
+    }
+}
+
+pub fn refused_rounded(number: u64, place: u64) -> RoundedFigure
+    ensures { λ r. ⌜ r ≡ shownRounded (refused (refusal number place)) ⌝ }
+{
+    RoundedFigure {
+        refusal: Refusal { number, place },
+        value: 0,
+        mark: 0,
+    }
+}
+
+// A rounded figure, unless something before it was declined.
+pub fn rounded_unless(declined: Refusal, figure: RoundedFigure) -> RoundedFigure
+    ensures { λ r. ⌜ r ≡ unless declined (shownRounded (refused declined)) figure ⌝ }
+{
+    if 0 < declined.number {
+        return refused_rounded(declined.number, declined.place);
+    }
+    figure
+}
+
+// A rounded temperature, answered and refused.
+pub fn answered_rounded_temperature(temperature: RoundedSigned) -> RoundedTemperature
+    ensures { λ r. ⌜ r ≡ shownRoundedTemperature (answered temperature) ⌝ }
+{
+    RoundedTemperature {
+        refusal: NOT_REFUSED,
+        value: temperature.value,
+        mark: temperature.mark,
+    }
+}
+
+pub fn refused_rounded_temperature(number: u64, place: u64) -> RoundedTemperature
+    ensures { λ r. ⌜ r ≡ shownRoundedTemperature (refused (refusal number place)) ⌝ }
+{
+    RoundedTemperature {
+        refusal: Refusal { number, place },
+        value: 0,
+        mark: 0,
     }
 }
 

@@ -13,20 +13,20 @@ use Rattle.rounding.specs.Fraction.{Fraction, whole, _⊠_, _⊑_, figure}
 use Rattle.rounding.proofs.Fractions.{is-whole, times-at-most, figure-mono}
 use Rattle.blend.specs.Limit.{Side, lower, upper}
 use Rattle.blend.specs.Temperature.{meant, gasOutside}
-use Rattle.blend.specs.Blend.{Question, limits, Told, noLimits}
-use Rattle.blend.specs.Model.{Entry, Entries, sum, total, limitAt, limitFigure, limitsOf, modelTells, modelAsks}
+use Rattle.blend.specs.Blend.{Question, limits, Told}
+use Rattle.blend.specs.Model.{Entry, Entries, sum, total, limitAt, limitAs, limitFigure, limitsOf, modelTells, modelAsksAs, modelAsks}
 use Rattle.blend.specs.Claims.{alone, AnswersAlone, Between, BetweenAlone}
 use Rattle.blend.proofs.Admitted.{AllAdmitted}
 use Rattle.blend.proofs.Bracket.{Bracket, bracketed}
 
 -- a question that all entries are told an answer to, in which a figure rises with a quantity
 record Shows (q : Question) (quantity : Entries → Fraction) (figureIn : Told q → ℕ) (tell : Entries → Told q) : Type 0 where
-  tells : (es : Entries) → modelTells es q ≡ answered (tell es)
+  tells : (es : Entries) → modelTells figure es q ≡ answered (tell es)
   rises : (es fs : Entries) → quantity es ⊑ quantity fs → figureIn (tell es) ≤ figureIn (tell fs)
 
 -- ANY QUESTION
-alone-asks : (e : Entry) (q : Question) → modelAsks (alone e) q ≡ modelTells (alone e) q
-unfolding modelAsks sum
+alone-asks : (e : Entry) (q : Question) → modelAsks (alone e) q ≡ modelTells figure (alone e) q
+unfolding modelAsksAs sum
 alone-asks e q = refl
 
 module _ {q : Question} {quantity : Entries → Fraction} {figureIn : Told q → ℕ} (tell : Entries → Told q) (shows : Shows q quantity figureIn tell)
@@ -51,23 +51,23 @@ module _ {q : Question} {quantity : Entries → Fraction} {figureIn : Told q →
 
 -- LIMITS
 limit-rises : (s : Side) (t : ℕ) (es fs : Entries) → limitAt s es t ⊑ limitAt s fs t → limitFigure s es t ≤ limitFigure s fs t
-unfolding limitFigure
+unfolding limitAs
 limit-rises s t es fs l = figure-mono (times-at-most (whole 100) (is-whole 100 .den-pos) l)
 
 -- what a question is answered with over entries whose total is above zero
-tells-between : (es : Entries) → AllAdmitted es → 0 < total es → (q : Question) (x : Told q) → modelTells es q ≡ answered x → BetweenAlone q es x
+tells-between : (es : Entries) → AllAdmitted es → 0 < total es → (q : Question) (x : Told q) → modelTells figure es q ≡ answered x → BetweenAlone q es x
 unfolding modelTells
 tells-between es known v (limits t) l h =
     let k = natAbs (meant t) in
     let passed = refuse-passed gasTemperatureOutside 0 (gasOutside (meant t)) _ l h in
-    let same : limitsOf es k ≡ l = ap (valueOf noLimits) (passed .1) in
+    let same : limitsOf figure es k ≡ l = ap (valueOf (limitsOf figure es k)) (passed .1) in
     rw (← same) (
-      shown-between (λ fs. limitsOf fs k) (record { tells = λ fs. rw (passed .0); rises = limit-rises lower k }) es known (bracketed lower k es v),
-      shown-between (λ fs. limitsOf fs k) (record { tells = λ fs. rw (passed .0); rises = limit-rises upper k }) es known (bracketed upper k es v),
+      shown-between (λ fs. limitsOf figure fs k) (record { tells = λ fs. rw (passed .0); rises = limit-rises lower k }) es known (bracketed lower k es v),
+      shown-between (λ fs. limitsOf figure fs k) (record { tells = λ fs. rw (passed .0); rises = limit-rises upper k }) es known (bracketed upper k es v),
     )
 
 pub asks-between : (es : Entries) → AllAdmitted es → (q : Question) (x : Told q) → modelAsks es q ≡ answered x → BetweenAlone q es x
-unfolding modelAsks
+unfolding modelAsksAs
 asks-between es known q x h =
-    let some = refuse-passed blendEmpty 0 (eqb (total es) 0) (modelTells es q) x h in
+    let some = refuse-passed blendEmpty 0 (eqb (total es) 0) (modelTells figure es q) x h in
     tells-between es known (pos-of-ne-zero (eqb-false (total es) 0 (some .0))) q x (some .1)

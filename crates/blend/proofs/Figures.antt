@@ -3,10 +3,10 @@ use mathlib.Core.Path.{_≡_, sym}
 use Prim.Native.Nat.{ℕ, _+_, _*_, _-_, _≤_, _<_}
 use native.Mathlib.Nat.{mul-le-mul, mul-le-mul-left}
 use native.Mathlib.Omega.{arith}
-use Rattle.rounding.specs.Round.{roundDiv}
-use Rattle.rounding.specs.Fraction.{_over_, whole, _⊠_, _⊘_, figure}
+use Rattle.rounding.specs.Round.{roundedValue, roundDiv}
+use Rattle.rounding.specs.Fraction.{_over_, whole, _⊠_, _⊘_, rounded}
 use Rattle.rounding.proofs.Rounding.{round-mono}
-use Rattle.rounding.proofs.Fractions.{is-over, is-whole, is-times, is-same, figure-is}
+use Rattle.rounding.proofs.Fractions.{is-over, is-whole, is-times, is-same, rounded-is}
 use Rattle.blend.specs.Limit.{Side, lower, upper}
 use Rattle.blend.specs.declared.Blend.{Blend}
 use Rattle.blend.specs.Temperature.{correction}
@@ -16,36 +16,36 @@ use Rattle.blend.proofs.LeChatelier.{from-sums-is}
 
 -- V / (sum / 100) times y / d, in hundredths
 corrected : (s : Side) (b : Blend) (y d n m : ℕ) → 0 < sumOf s b → 0 < d → 0 < m → 100 * (b .total * (100 * unit s) * y) * m ≡ n * (1 * (sumOf s b * d))
-    → figure (whole 100 ⊠ ((whole (b .total) ⊘ (held s b ⊘ whole 100)) ⊠ (y over d))) ≡ roundDiv n m
-corrected s b y d n m p h k e = figure-is (is-same (is-times (is-whole 100) (is-times (from-sums-is s b p) (is-over y d h))) k e)
+    → rounded (whole 100 ⊠ ((whole (b .total) ⊘ (held s b ⊘ whole 100)) ⊠ (y over d))) ≡ roundDiv n m
+corrected s b y d n m p h k e = rounded-is (is-same (is-times (is-whole 100) (is-times (from-sums-is s b p) (is-over y d h))) k e)
 
-pub lower-figure : (b : Blend) (t : ℕ) → 0 < b .lower → roundDiv (25000 * b .total * (127700 - t)) (313 * b .lower) ≡ blendLimit lower b t
+pub lower-figure : (b : Blend) (t : ℕ) → 0 < b .lower → roundDiv (25000 * b .total * (127700 - t)) (313 * b .lower) ≡ blendLimit rounded lower b t
 unfolding blendLimit correction
 lower-figure b t p = sym (go (127700 - t))
   where
-    go : (y : ℕ) → figure (whole 100 ⊠ ((whole (b .total) ⊘ (held lower b ⊘ whole 100)) ⊠ (y over 125200))) ≡ roundDiv (25000 * b .total * y) (313 * b .lower)
+    go : (y : ℕ) → rounded (whole 100 ⊠ ((whole (b .total) ⊘ (held lower b ⊘ whole 100)) ⊠ (y over 125200))) ≡ roundDiv (25000 * b .total * y) (313 * b .lower)
     go y = corrected lower b y 125200 (25000 * b .total * y) (313 * b .lower) p (omega arith) (omega arith) (omega arith)
 
-pub upper-figure : (b : Blend) (t : ℕ) → 0 < b .upper → roundDiv (50000 * b .total * (t + 78700)) (203 * b .upper) ≡ blendLimit upper b t
+pub upper-figure : (b : Blend) (t : ℕ) → 0 < b .upper → roundDiv (50000 * b .total * (t + 78700)) (203 * b .upper) ≡ blendLimit rounded upper b t
 unfolding blendLimit correction
 upper-figure b t p = sym (go (t + 78700))
   where
-    go : (y : ℕ) → figure (whole 100 ⊠ ((whole (b .total) ⊘ (held upper b ⊘ whole 100)) ⊠ (y over 81200))) ≡ roundDiv (50000 * b .total * y) (203 * b .upper)
+    go : (y : ℕ) → rounded (whole 100 ⊠ ((whole (b .total) ⊘ (held upper b ⊘ whole 100)) ⊠ (y over 81200))) ≡ roundDiv (50000 * b .total * y) (203 * b .upper)
     go y = corrected upper b y 81200 (50000 * b .total * y) (203 * b .upper) p (omega arith) (omega arith) (omega arith)
 
 -- AT MOST 100.00 %
-small : (n d : ℕ) → 0 < d → n ≤ 10000 * d → roundDiv n d ≤ 10000
-unfolding roundDiv
+small : (n d : ℕ) → 0 < d → n ≤ 10000 * d → roundDiv n d .value ≤ 10000
+unfolding roundDiv roundedValue
 small n d h l = round-mono n d 10000 1 h (omega arith) (omega arith)
 
 module _ (b : Blend) (t : ℕ) (w : Within b) (some : 0 < b .total) (warm : t ≤ 20000) where
-  pub lower-most : blendLimit lower b t ≤ 10000
+  pub lower-most : blendLimit rounded lower b t .value ≤ 10000
   lower-most =
       let cold : 127700 - t ≤ 127700 = omega arith in
       let m = mul-le-mul-left (b .total) cold in
       rw (← lower-figure b t (omega arith)) (small _ _ (omega arith) (omega arith))
 
-  pub upper-most : blendLimit upper b t ≤ 10000
+  pub upper-most : blendLimit rounded upper b t .value ≤ 10000
   upper-most =
       let hot : t + 78700 ≤ 98700 = omega arith in
       let m = mul-le-mul-left (b .total) hot in

@@ -5,6 +5,7 @@ use Prim.Native.Nat.{ℕ, _+_, _≤_, _<_}
 use native.Mathlib.Omega.{arith}
 use lib.Dec.{ltb}
 use Rattle.answer.specs.declared.Refusal.{Refusal}
+use Rattle.answer.specs.declared.Rounded.{Rounded}
 use Rattle.answer.specs.Numbers.{totalTooLarge, blendOutOfBounds}
 use Rattle.answer.specs.Outcome.{Outcome, refused, answered, refuse, andThen, unless}
 use Rattle.answer.specs.Internal.{Numbered}
@@ -32,10 +33,10 @@ module _ (b : Blend) (o : Outcome Blend) (r : Blended) (e : r ≡ shownBlend b o
   pub blend-answered : Numbered o → r .refusal .number ≤ 0 → o ≡ answered (r .blend)
   blend-answered h l = rw e (told-answered b o h (omega (arith, rw e at l)))
 
-abbrev pub pairOf : Limits → LimitPair
-pairOf r = record { lower = r .lower; upper = r .upper }
+abbrev pub pairOf : Limits → LimitPair Rounded
+pairOf r = record { lower = record { value = r .lower; mark = r .«lower_mark» }; upper = record { value = r .upper; mark = r .«upper_mark» } }
 
-module _ (o : Outcome LimitPair) (r : Limits) (e : r ≡ shownLimits o) where
+module _ (o : Outcome (LimitPair Rounded)) (r : Limits) (e : r ≡ shownLimits o) where
   pub limits-refused : 0 < r .refusal .number → o ≡ refused (r .refusal)
   limits-refused l = rw e (told-refused o (rw e at l))
 

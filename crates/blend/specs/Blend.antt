@@ -5,8 +5,9 @@ use Prim.Native.Nat.{ℕ, _+_, _*_}
 use lib.Dec.{leb, ltb, eqb}
 use lib.IntN.{ℤ, natAbs}
 use Rattle.answer.specs.Numbers.{totalTooLarge, blendEmpty, gasTemperatureOutside, blendOutOfBounds}
-use Rattle.answer.specs.Outcome.{Outcome, answered, refuse, refusalOf, valueOf, andThen}
-use Rattle.rounding.specs.Fraction.{Fraction, _over_, whole, _⊠_, _⊘_, figure}
+use Rattle.answer.specs.Outcome.{Outcome, answered, refuse, refusalOf, valueOf, andThen, noFigure}
+use Rattle.answer.specs.declared.Rounded.{Rounded}
+use Rattle.rounding.specs.Fraction.{Fraction, _over_, whole, _⊠_, _⊘_, rounded, figure}
 use Rattle.elements.specs.declared.Atoms.{Atoms}
 use Rattle.blend.specs.declared.Blend.{Blend}
 use Rattle.blend.specs.declared.Blended.{Blended}
@@ -87,33 +88,47 @@ pub data Question : Type 0 where
   -- both limits at a temperature in hundredths of a degree, or with none named
   limits : Option ℤ → Question
 
-pub record LimitPair : Type 0 where
-  pub lower : ℕ
-  pub upper : ℕ
+pub record LimitPair (A : Type 0) : Type 0 where
+  pub lower : A
+  pub upper : A
 
--- what a question is answered with
+-- what a question is answered with where A is told of each fraction: its figure, ℕ, or its figure with its mark, `Rounded`
+abbrev pub ToldAs : Type 0 → Question → Type 0
+ToldAs A (limits t) = LimitPair A
+
+module _ {A : Type 0} (tell : Fraction → A) where
+  -- V / Σ (v / limit) at t, where v / limit is v (aβ + b) / 100; in hundredths of a percent
+  unfoldable pub blendLimit : Side → Blend → ℕ → A
+  blendLimit s b t = tell (whole 100 ⊠ ((whole (b .total) ⊘ (held s b ⊘ whole 100)) ⊠ correction s t))
+
+  abbrev pub limitsAt : Blend → ℕ → LimitPair A
+  limitsAt b t = record { lower = blendLimit lower b t; upper = blendLimit upper b t }
+
+  -- of a blend that is not empty
+  unfoldable pub telling : Blend → (q : Question) → Outcome (ToldAs A q)
+  telling b (limits t) = refuse gasTemperatureOutside 0 (gasOutside (meant t)) (answered (limitsAt b (natAbs (meant t))))
+
+  unfoldable pub askingAs : Blend → (q : Question) → Outcome (ToldAs A q)
+  askingAs b q =
+      refuse blendOutOfBounds 0 (not (within b))
+      (refuse blendEmpty 0 (eqb (b .total) 0)
+      (telling b q))
+
+-- THE FIGURES alone, of which the claim speaks; and with their marks
 abbrev pub Told : Question → Type 0
-Told (limits t) = LimitPair
+Told q = ToldAs ℕ q
 
--- V / Σ (v / limit) at t, where v / limit is v (aβ + b) / 100; in hundredths of a percent
-unfoldable pub blendLimit : Side → Blend → ℕ → ℕ
-blendLimit s b t = figure (whole 100 ⊠ ((whole (b .total) ⊘ (held s b ⊘ whole 100)) ⊠ correction s t))
+abbrev pub asking : Blend → (q : Question) → Outcome (Told q)
+asking b q = askingAs figure b q
 
-abbrev pub limitsAt : Blend → ℕ → LimitPair
-limitsAt b t = record { lower = blendLimit lower b t; upper = blendLimit upper b t }
+abbrev pub askingMarked : Blend → (q : Question) → Outcome (ToldAs Rounded q)
+askingMarked b q = askingAs rounded b q
 
--- of a blend that is not empty
-unfoldable pub telling : Blend → (q : Question) → Outcome (Told q)
-telling b (limits t) = refuse gasTemperatureOutside 0 (gasOutside (meant t)) (answered (limitsAt b (natAbs (meant t))))
+-- both limits as they are answered: with a refusal all is 0
+abbrev pub noLimits : LimitPair Rounded
+noLimits = record { lower = noFigure; upper = noFigure }
 
-unfoldable pub asking : Blend → (q : Question) → Outcome (Told q)
-asking b q =
-    refuse blendOutOfBounds 0 (not (within b))
-    (refuse blendEmpty 0 (eqb (b .total) 0)
-    (telling b q))
-
-abbrev pub noLimits : LimitPair
-noLimits = record { lower = 0; upper = 0 }
-
-abbrev pub shownLimits : Outcome LimitPair → Limits
-shownLimits o = record { refusal = refusalOf o; lower = valueOf noLimits o .lower; upper = valueOf noLimits o .upper }
+abbrev pub shownLimits : Outcome (LimitPair Rounded) → Limits
+shownLimits o =
+    let l = valueOf noLimits o in
+    record { refusal = refusalOf o; lower = l .lower .value; upper = l .upper .value; «lower_mark» = l .lower .mark; «upper_mark» = l .upper .mark }

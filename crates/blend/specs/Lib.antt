@@ -5,4 +5,5 @@ pub mod Blend
 pub mod Calls
 pub mod Model
 pub mod Claims
+pub mod Marks
 pub mod Internal

@@ -7,15 +7,18 @@ ghost use Prim.Native.Nat.{_*_, _≤_, _<_};
 ghost use lib.Dec.{leb};
 ghost use Rattle.answer.specs.Outcome.{refused, answered, refusal, unless};
 ghost use Rattle.rounding.specs.Round.{roundDiv};
+ghost use Rattle.rounding.specs.Fraction.{rounded};
 ghost use Rattle.elements.specs.Elements.{each, firstAbove, weightedSum};
 ghost use Rattle.blend.specs.Limit.{lower, upper};
 ghost use Rattle.blend.specs.Temperature.{OneAtFit};
 ghost use Rattle.blend.specs.Fuel.{counts, text as fuel-text, admitting, molarMass, masses, InHalves};
-ghost use Rattle.blend.specs.Blend.{emptyBlend, weight, within, withFuel, together, taking, adding, joining, limits as asked-limits, asking, limitsAt, shownBlend, shownLimits};
+ghost use Rattle.blend.specs.Blend.{emptyBlend, weight, within, withFuel, together, taking, adding, joining, limits as asked-limits, askingMarked, limitsAt, shownBlend, shownLimits};
 ghost use Rattle.blend.specs.Calls.{Call};
 ghost use Rattle.blend.specs.Claims.{Claims};
+ghost use Rattle.blend.specs.Marks.{MarksAlike};
 ghost use Rattle.blend.specs.Internal.{Within, Rated};
 use answer::Refusal;
+use answer::Rounded;
 use answer::is_outside_signed;
 use elements::Atoms;
 use elements::weighted_sum;
@@ -40,12 +43,14 @@ pub struct Blended {
     pub blend: Blend,
 }
 
-// Both limits in hundredths of a volume percent, or a refusal and zeros.
+// Both limits in hundredths of a volume percent with their marks, or a refusal and zeros.
 #[repr(C)]
 pub struct Limits {
     pub refusal: Refusal,
     pub lower: u64,
     pub upper: u64,
+    pub lower_mark: u64,
+    pub upper_mark: u64,
 }
 
 // 25 °C: the temperature at which the limits' formulas were fitted.
@@ -165,7 +170,19 @@ fn take(b: Blend, fuel: Atoms, parts: u64) -> Blended
     changed(with_fuel(b, beta.value, parts))
 }
 
-// A refusal of limits.
+// Limits, answered and refused.
+pub fn limits_of(lower: Rounded, upper: Rounded) -> Limits
+    ensures { λ r. ⌜ r ≡ shownLimits (answered (record { lower = lower; upper = upper })) ⌝ }
+{
+    Limits {
+        refusal: answer::NOT_REFUSED,
+        lower: lower.value,
+        upper: upper.value,
+        lower_mark: lower.mark,
+        upper_mark: upper.mark,
+    }
+}
+
 pub fn no_limits(number: u64, place: u64) -> Limits
     ensures { λ r. ⌜ r ≡ shownLimits (refused (refusal number place)) ⌝ }
 {
@@ -173,6 +190,8 @@ pub fn no_limits(number: u64, place: u64) -> Limits
         refusal: Refusal { number, place },
         lower: 0,
         upper: 0,
+        lower_mark: 0,
+        upper_mark: 0,
     }
 }
 
@@ -187,7 +206,7 @@ pub fn limits_unless(declined: Refusal, limits: Limits) -> Limits
 }
 
 // scale · v · factor / (divisor · x), rounded.
-fn rated(scale: u64, v: u64, factor: u64, divisor: u64, x: u64) -> u64
+fn rated(scale: u64, v: u64, factor: u64, divisor: u64, x: u64) -> Rounded
     requires { ⌜ Rated scale v factor divisor x ⌝ }
     ensures { λ r. ⌜ r ≡ roundDiv (scale * v * factor) (divisor * x) ⌝ }
 {
@@ -197,19 +216,18 @@ fn rated(scale: u64, v: u64, factor: u64, divisor: u64, x: u64) -> u64
 // Both limits at an admitted temperature, of a blend that is not empty.
 fn limits_from(b: Blend, t: u64) -> Limits
     requires { ⌜ Within b × (0 < b .total) × (t ≤ 20000) ⌝ }
-    ensures { λ r. ⌜ r ≡ shownLimits (answered (limitsAt b t)) ⌝ }
+    ensures { λ r. ⌜ r ≡ shownLimits (answered (limitsAt rounded b t)) ⌝ }
 {
-    Limits {
-        refusal: answer::NOT_REFUSED,
-        lower: rated(25000, b.total, 127700 - t, 313, b.lower),
-        upper: rated(50000, b.total, t + 78700, 203, b.upper),
-    }
+    let lower = rated(25000, b.total, 127700 - t, 313, b.lower);
+    let upper = rated(50000, b.total, t + 78700, 203, b.upper);
+    limits_of(lower, upper)
 }
 
-// An empty blend. Of blends that begin empty, and of every list of calls on them, the claims of specs/Claims.antt hold.
+// An empty blend. Of blends that begin empty, and of every list of calls on them, the claims of specs/Claims.antt hold, and of their marks specs/Marks.antt.
 pub fn empty_blend() -> Blend
     ensures { λ r. ⌜ r ≡ emptyBlend ⌝ }
     ensures every_list { λ _. ⌜ ((calls : List Call) → Claims calls) ⌝ }
+    ensures marks { λ _. ⌜ ((calls : List Call) → MarksAlike calls) ⌝ }
 {
     Blend {
         total: 0,
@@ -262,7 +280,7 @@ pub fn join_blends(b: Blend, other: Blend) -> Blended
 
 // Both limits at a temperature in hundredths of a degree, at most 100.00 %; at that of the fit no correction is applied. Refusals 28, 9, 10.
 pub fn blend_limits_at(b: Blend, temperature: i64) -> Limits
-    ensures { λ r. ⌜ r ≡ shownLimits (asking b (asked-limits (some temperature))) ⌝ }
+    ensures { λ r. ⌜ r ≡ shownLimits (askingMarked b (asked-limits (some temperature))) ⌝ }
     ensures at_most { λ r. ⌜ (r .lower ≤ 10000) × (r .upper ≤ 10000) ⌝ }
     ensures at_fit { λ _. ⌜ OneAtFit ⌝ }
 {
@@ -280,7 +298,7 @@ pub fn blend_limits_at(b: Blend, temperature: i64) -> Limits
 
 // Both limits with no temperature named, at most 100.00 %. Refusals 28, 9.
 pub fn blend_limits(b: Blend) -> Limits
-    ensures { λ r. ⌜ r ≡ shownLimits (asking b (asked-limits none)) ⌝ }
+    ensures { λ r. ⌜ r ≡ shownLimits (askingMarked b (asked-limits none)) ⌝ }
     ensures at_most { λ r. ⌜ (r .lower ≤ 10000) × (r .upper ≤ 10000) ⌝ }
 {
     blend_limits_at(b, USUAL_TEMPERATURE)

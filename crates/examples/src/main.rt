@@ -1,6 +1,8 @@
 // A run of every figure and place of document 01 and of the source documents: what it writes is compared with the file stdout.
 // Questions whose figure was fitted at 25 °C are asked at that temperature by its name.
 use answer::Refusal;
+use answer::RoundedFigure;
+use answer::RoundedTemperature;
 use answer::Temperature;
 use answer::figure_unless;
 use blend::Blend;
@@ -115,6 +117,26 @@ fn show_hundredths(n: u64) {
     io::print_decimal(STDOUT_FILENO, exact.remainder);
 }
 
+// How a rounded figure stands to the exact one, in size.
+fn show_mark(mark: u64) {
+    if mark == answer::EXACT {
+        show(b" exact");
+    }
+    if mark == answer::RAISED {
+        show(b" raised");
+    }
+    if mark == answer::LOWERED {
+        show(b" lowered");
+    }
+}
+
+// A figure in hundredths that was rounded.
+fn show_rounded(figure: RoundedFigure) {
+    show_hundredths(figure.value);
+    show_mark(figure.mark);
+    show(b"\n");
+}
+
 fn show_degrees(temperature: i64) {
     if temperature < 0 {
         show(b"-");
@@ -129,8 +151,10 @@ fn show_limits(limits: Limits) {
         return;
     }
     show_hundredths(limits.lower);
+    show_mark(limits.lower_mark);
     show(b", ");
     show_hundredths(limits.upper);
+    show_mark(limits.upper_mark);
     show(b"\n");
 }
 
@@ -147,8 +171,7 @@ fn show_coefficient(text: &[u8]) {
     }
     io::print_decimal(STDOUT_FILENO, figure.value);
     show(b" quarters, stoichiometric fraction ");
-    show_hundredths(oxygen::stoichiometric_fraction(fuel).value);
-    show(b"\n");
+    show_rounded(oxygen::stoichiometric_fraction(fuel));
 }
 
 fn oxygen_coefficients() {
@@ -215,6 +238,7 @@ fn fuel_limits() {
     show_fuel_at(b"CH4", 20001);
     show_fuel_at(b"CH4", -1);
     show_fuel_at(b"CH3Cl", 2000);
+    show_fuel_at(b"CH2O", 6966);
     show_usual(b"CH4");
     show_usual(b"C6H6");
 }
@@ -284,6 +308,19 @@ fn show_temperature(name: &[u8], answer: Temperature) {
     show(b"\n");
 }
 
+fn show_point(name: &[u8], answer: RoundedTemperature) {
+    show(name);
+    show(b": ");
+    let refusal = answer.refusal;
+    if 0 < refusal.number {
+        show_refusal(refusal);
+        return;
+    }
+    show_degrees(answer.value);
+    show_mark(answer.mark);
+    show(b"\n");
+}
+
 // Carbon and hydrogen, and oxygen.
 fn fuel(c: u64, h: u64, o: u64) -> Atoms {
     Atoms {
@@ -303,7 +340,7 @@ fn bonds_of(single: u64, ring: u64, c_h: u64, c_o: u64, o_h: u64) -> Bonds {
 }
 
 fn show_bonds(name: &[u8], method: u64, atoms: Atoms, bonds: Bonds, boiling: i64) {
-    show_temperature(name, flash::flash_by_bonds(method, atoms, bonds, boiling));
+    show_point(name, flash::flash_by_bonds(method, atoms, bonds, boiling));
 }
 
 fn flash_points() {
@@ -312,7 +349,7 @@ fn flash_points() {
     show_bonds(b"ethanol, closed cup", 1, fuel(2, 6, 1), ethanol, 7840);
     show_bonds(b"ethanol, open cup", 2, fuel(2, 6, 1), ethanol, 7840);
     show_bonds(b"ethanol, fire point", 3, fuel(2, 6, 1), ethanol, 7840);
-    show_temperature(b"ethanol, alcohols", flash::flash_by_class(2, 7840));
+    show_point(b"ethanol, alcohols", flash::flash_by_class(2, 7840));
     let benzene = bonds_of(0, 6, 6, 0, 0);
     show_bonds(b"benzene at 80.10", 1, fuel(6, 6, 0), benzene, 8010);
     show_bonds(b"benzene at 80.05", 1, fuel(6, 6, 0), benzene, 8005);
@@ -327,7 +364,9 @@ fn flash_points() {
     );
     show_bonds(b"bonds of another", 1, fuel(7, 8, 0), benzene, 7840);
     show_bonds(b"boiling above 600.00", 1, fuel(2, 6, 1), ethanol, 60001);
-    show_temperature(b"class 11", flash::flash_by_class(11, 7840));
+    show_point(b"alkanes at 5.00", flash::flash_by_class(1, 500));
+    show_point(b"alkanes at 0.00", flash::flash_by_class(1, 0));
+    show_point(b"class 11", flash::flash_by_class(11, 7840));
 }
 
 fn show_lower(name: &[u8], fuel: Atoms) {

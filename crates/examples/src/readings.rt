@@ -1,10 +1,11 @@
 // The analyser's readings at their edges, and its methods.
 use crate::show;
+use crate::show_mark;
 use crate::show_refusal;
 use analyser::Method;
 use analyser::Reading;
 use analyser::parts_of;
-use answer::Figure;
+use answer::RoundedFigure;
 use libc::STDOUT_FILENO;
 
 fn not_a_number() -> f64 {
@@ -19,7 +20,7 @@ fn method_of(limit: f64, ceiling: f64) -> Method {
     Method { limit, ceiling }
 }
 
-fn show_parts(name: &[u8], answer: Figure) {
+fn show_parts(name: &[u8], answer: RoundedFigure) {
     show(name);
     show(b": ");
     let refusal = answer.refusal;
@@ -28,6 +29,7 @@ fn show_parts(name: &[u8], answer: Figure) {
         return;
     }
     io::print_decimal(STDOUT_FILENO, answer.value);
+    show_mark(answer.mark);
     show(b"\n");
 }
 
@@ -74,9 +76,16 @@ fn readings() {
     show_percent(b"not a number", not_a_number());
     show_percent(b"infinity", infinity());
     show_percent(b"minus infinity", -infinity());
+    show_percent(b"zero", 0.0);
     show_ppm(b"2.5 ppm", 2.5);
+    show_ppm(b"0.5 ppm", 0.5);
     show_ppm(b"0.49999999999999994 ppm", 0.49999999999999994);
+    show_ppm(b"1e-300 ppm", 1e-300);
     show_ppm(b"1000000 ppm", 1000000.0);
+    show_parts(
+        b"0.4 ppm at the limit",
+        parts_of(method_of(0.4, 1000000.0), Reading::Ppm(0.4)),
+    );
     show_limited(b"at the limit", 2.5);
     show_limited(b"just below the limit", 2.4999999999999996);
     show_limited(b"negative, below the limit", -1.0);

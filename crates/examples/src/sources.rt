@@ -4,16 +4,14 @@ use crate::fuel;
 use crate::show;
 use crate::show_bonds;
 use crate::show_fuel;
-use crate::show_hundredths;
 use crate::show_limits;
+use crate::show_rounded;
 use blend::FIT_TEMPERATURE;
 
 // Source document 000: ethylene glycol's stoichiometric fraction, toluene's flash point.
 fn show_handbook() {
     show(b"000, C2H6O2, printed 7.63 %: ");
-    let fraction = oxygen::stoichiometric_fraction(fuel(2, 6, 2));
-    show_hundredths(fraction.value);
-    show(b"\n");
+    show_rounded(oxygen::stoichiometric_fraction(fuel(2, 6, 2)));
     show_bonds(
         b"000, toluene, printed 4.86",
         1,

@@ -6,8 +6,8 @@ use Prim.Native.Nat.{ℕ, _-_, _<_, _≤_}
 use lib.Dec.{eqb, ltb}
 use lib.IntN.{ℤ, pos, natAbs, _*ℤ_}
 use lib.ListN.{getD}
-use Rattle.answer.specs.declared.Temperature.{Temperature}
-use Rattle.answer.specs.Outcome.{answered, shownTemperature}
+use Rattle.answer.specs.declared.RoundedTemperature.{RoundedTemperature}
+use Rattle.answer.specs.Outcome.{answered, shownRoundedTemperature}
 use Rattle.rounding.specs.Round.{roundDivℤ}
 use Rattle.bonds.specs.declared.Bonds.{Bonds}
 use Rattle.flash.specs.declared.Linear.{Linear}
@@ -49,5 +49,5 @@ unfoldable pub termsFrom : List ℤ → Bonds → ℕ → List ℤ
 termsFrom xs b i = map (λ (k : ℕ). getD xs k (pos 0) *ℤ pos (getD (b .count) k 0)) (from i (22 - i))
 
 -- a sum as it is answered
-abbrev pub shownSum : ℤ → Temperature
-shownSum s = shownTemperature (answered (roundDivℤ s 1000))
+abbrev pub shownSum : ℤ → RoundedTemperature
+shownSum s = shownRoundedTemperature (answered (roundDivℤ s 1000))

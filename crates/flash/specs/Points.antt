@@ -10,6 +10,7 @@ use Rattle.answer.specs.Numbers.{countTooLarge, hydrogenDiffers, noCoefficient,
 use Rattle.answer.specs.Lowest.{lowest}
 use Rattle.answer.specs.Outcome.{Outcome, answered, refuse, refuseAt}
 use Rattle.answer.specs.Outside.{outside}
+use Rattle.answer.specs.declared.RoundedSigned.{RoundedSigned}
 use Rattle.rounding.specs.Round.{roundDivℤ}
 use Rattle.elements.specs.declared.Atoms.{Atoms}
 use Rattle.bonds.specs.declared.Bonds.{Bonds}
@@ -61,12 +62,12 @@ unfoldable pub sumFrom : ℤ → List ℤ → ℤ
 sumFrom s [] = s
 sumFrom s (x ∷ xs) = sumFrom (s +ℤ x) xs
 
--- rounded once to hundredths
-abbrev pub rounded : List ℤ → ℤ
+-- rounded once to hundredths, with the mark
+abbrev pub rounded : List ℤ → RoundedSigned
 rounded xs = roundDivℤ (sumFrom (pos 0) xs) 1000
 
 -- formula (33), with its refusals in their order
-unfoldable pub byBonds : ℕ → Atoms → Bonds → ℤ → Outcome ℤ
+unfoldable pub byBonds : ℕ → Atoms → Bonds → ℤ → Outcome RoundedSigned
 byBonds m a b t =
     refuse unknownMethod 0 (outside (pos 1) (pos 3) (pos m))
     (refuseAt countTooLarge (aboveAt a b)
@@ -76,7 +77,7 @@ byBonds m a b t =
     (answered (rounded (terms m b t)))))))
 
 -- formula (34)
-unfoldable pub byClass : ℕ → ℤ → Outcome ℤ
+unfoldable pub byClass : ℕ → ℤ → Outcome RoundedSigned
 byClass k t =
     refuse unknownMethod 0 (outside (pos 1) (pos 10) (pos k))
     (refuse boilingPointOutside 0 (boilingOutside t)

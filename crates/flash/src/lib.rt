@@ -4,15 +4,15 @@ ghost use mathlib.Core.Option.{Option·getD};
 ghost use Prim.Native.Nat.{_≤_};
 ghost use lib.IntN.{pos, natAbs, _*ℤ_};
 ghost use Rattle.answer.specs.Lowest.{lowest};
-ghost use Rattle.answer.specs.Outcome.{shownTemperature};
+ghost use Rattle.answer.specs.Outcome.{shownRoundedTemperature};
 ghost use Rattle.flash.specs.Tables.{linearOf, methods, classes};
 ghost use Rattle.flash.specs.Points.{row, boilingOutside, lineTerms, sumFrom, byBonds, byClass};
 ghost use Rattle.flash.specs.Internal.{KnownMethod, KnownClass, SmallLine, SmallColumn, FewBonds, column, blank, blankAt, termsFrom, shownSum};
-use answer::Temperature;
-use answer::answered_temperature;
+use answer::RoundedTemperature;
+use answer::answered_rounded_temperature;
 use answer::is_outside;
 use answer::is_outside_signed;
-use answer::refused_temperature;
+use answer::refused_rounded_temperature;
 use bonds::Bonds;
 use bonds::first_above_200;
 use bonds::hydrogen_is_unbalanced;
@@ -216,47 +216,47 @@ fn bond_sum(start: i64, column: [i64; 22], bonds: Bonds) -> i64
 }
 
 // A sum in hundred-thousandths of a degree, rounded once to hundredths.
-fn rounded(sum: i64) -> Temperature
+fn rounded(sum: i64) -> RoundedTemperature
     ensures { λ r. ⌜ r ≡ shownSum sum ⌝ }
 {
-    answered_temperature(round_div_signed(sum, 1000))
+    answered_rounded_temperature(round_div_signed(sum, 1000))
 }
 
 // The flash or fire point from bonds: methods 1 closed cup, 2 open cup, 3 fire point. Refusals 16, 2, 5, 6, 7.
-pub fn flash_by_bonds(method: u64, atoms: Atoms, bonds: Bonds, boiling: i64) -> Temperature
-    ensures { λ r. ⌜ r ≡ shownTemperature (byBonds method atoms bonds boiling) ⌝ }
+pub fn flash_by_bonds(method: u64, atoms: Atoms, bonds: Bonds, boiling: i64) -> RoundedTemperature
+    ensures { λ r. ⌜ r ≡ shownRoundedTemperature (byBonds method atoms bonds boiling) ⌝ }
 {
     if is_outside(1, 3, method) {
-        return refused_temperature(answer::UNKNOWN_METHOD, 0);
+        return refused_rounded_temperature(answer::UNKNOWN_METHOD, 0);
     }
     let over = first_above_200(atoms, bonds);
     if 0 < over {
-        return refused_temperature(answer::COUNT_TOO_LARGE, over);
+        return refused_rounded_temperature(answer::COUNT_TOO_LARGE, over);
     }
     if hydrogen_is_unbalanced(atoms, bonds) {
-        return refused_temperature(answer::HYDROGEN_DIFFERS, 0);
+        return refused_rounded_temperature(answer::HYDROGEN_DIFFERS, 0);
     }
     let column = column_of(method);
     let missing = first_missing(column, bonds);
     if 0 < missing {
-        return refused_temperature(answer::NO_COEFFICIENT, missing);
+        return refused_rounded_temperature(answer::NO_COEFFICIENT, missing);
     }
     if is_boiling_outside(boiling) {
-        return refused_temperature(answer::BOILING_POINT_OUTSIDE, 0);
+        return refused_rounded_temperature(answer::BOILING_POINT_OUTSIDE, 0);
     }
     let start = line_sum(method_line(method), boiling);
     rounded(bond_sum(start, column, bonds))
 }
 
 // The flash point from a class, 1 to 10. Refusals 16, 7.
-pub fn flash_by_class(class: u64, boiling: i64) -> Temperature
-    ensures { λ r. ⌜ r ≡ shownTemperature (byClass class boiling) ⌝ }
+pub fn flash_by_class(class: u64, boiling: i64) -> RoundedTemperature
+    ensures { λ r. ⌜ r ≡ shownRoundedTemperature (byClass class boiling) ⌝ }
 {
     if is_outside(1, 10, class) {
-        return refused_temperature(answer::UNKNOWN_METHOD, 0);
+        return refused_rounded_temperature(answer::UNKNOWN_METHOD, 0);
     }
     if is_boiling_outside(boiling) {
-        return refused_temperature(answer::BOILING_POINT_OUTSIDE, 0);
+        return refused_rounded_temperature(answer::BOILING_POINT_OUTSIDE, 0);
     }
     rounded(line_sum(class_line(class), boiling))
 }

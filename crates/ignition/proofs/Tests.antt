@@ -11,6 +11,7 @@ use lib.Dec.{leb}
 use lib.IntN.{pos}
 use Rattle.answer.specs.Numbers.{unknownMethod, diffusionOutside}
 use Rattle.answer.specs.Outcome.{Outcome, refused, answered, refuse, andThen, shownTemperature}
+use Rattle.answer.specs.declared.Rounded.{Rounded}
 use Rattle.answer.specs.Internal.{Numbered}
 use Rattle.answer.specs.Outside.{outside}
 use Rattle.answer.proofs.Outcomes.{refuse-numbered, andThen-numbered}
@@ -54,9 +55,9 @@ pub limit-tested : (a : Atoms) → testedBy (limitCondition a) ≡ limitTest a
 unfolding withLimit
 limit-tested a = go (fuelLimits (some fitTemperature) a)
   where
-    go : (o : Outcome LimitPair) → testedBy (andThen o (λ l. answered (byPressure (l .lower)))) ≡ andThen o (λ l. answered (reaches (l .lower)))
+    go : (o : Outcome (LimitPair Rounded)) → testedBy (andThen o (λ l. answered (byPressure (l .lower .value)))) ≡ andThen o (λ l. answered (reaches (l .lower .value)))
     go (refused r) = refl
-    go (answered l) = ap answered (reaches-is (l .lower))
+    go (answered l) = ap answered (reaches-is (l .lower .value))
 
 pub limit-numbered : (a : Atoms) → Numbered (limitCondition a)
 unfolding withLimit

@@ -27,7 +27,7 @@ reaches limit t p = atMost (partOfPressure limit) (whole p)
 
 -- the fuel's refusals, then what is made of φ
 unfoldable pub withLimit : {A : Type 0} → Atoms → (ℕ → A) → Outcome A
-withLimit a made = andThen (fuelLimits (some fitTemperature) a) (λ l. answered (made (l .lower)))
+withLimit a made = andThen (fuelLimits (some fitTemperature) a) (λ l. answered (made (l .lower .value)))
 
 abbrev pub limitTest : Atoms → Outcome Test
 limitTest a = withLimit a reaches

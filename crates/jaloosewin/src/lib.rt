@@ -3,7 +3,7 @@ ghost use mathlib.Core.Path.{_≡_};
 ghost use mathlib.Core.List.{List, [], _∷_};
 ghost use mathlib.Core.Option.{some, none};
 ghost use Prim.Native.Nat.{_≤_};
-ghost use Rattle.answer.specs.Outcome.{shownFigure};
+ghost use Rattle.answer.specs.Outcome.{shownFigure, shownRounded};
 ghost use Rattle.formula.specs.Reading.{formulaRead, ByGrammar, ofText};
 ghost use Rattle.text.specs.Writing.{Longest};
 ghost use Rattle.hill.specs.Hill.{BySymbol};
@@ -13,13 +13,16 @@ ghost use Rattle.oxygen.specs.Admission.{oxygenCoefficient};
 ghost use Rattle.oxygen.specs.Stoichiometric.{stoichiometricFraction};
 ghost use Rattle.blend.specs.Temperature.{OneAtFit};
 ghost use Rattle.blend.specs.Fuel.{text as fuel-text};
-ghost use Rattle.blend.specs.Blend.{blend as blend-of, emptyBlend, adding, joining, limits as asked-limits, asking, shownBlend, shownLimits};
+ghost use Rattle.blend.specs.Blend.{blend as blend-of, emptyBlend, adding, joining, limits as asked-limits, askingMarked, shownBlend, shownLimits};
 ghost use Rattle.blend.specs.Calls.{Call};
 ghost use Rattle.blend.specs.Claims.{Claims};
+ghost use Rattle.blend.specs.Marks.{MarksAlike};
 ghost use Rattle.limits.specs.FuelLimits.{fuelLimits, AsBlend};
 ghost use Rattle.limits.specs.Concentration.{massConcentration};
 use answer::Figure;
+use answer::RoundedFigure;
 use answer::figure_unless;
+use answer::rounded_unless;
 use blend::Blend;
 use blend::Blended;
 use blend::Limits;
@@ -77,12 +80,12 @@ pub extern "C" fn jlw_oxygen_coefficient(text: &[u8]) -> Figure
 
 // In hundredths of a percent.
 #[no_mangle]
-pub extern "C" fn jlw_stoichiometric_fraction(text: &[u8]) -> Figure
-    ensures { λ r. ⌜ r ≡ shownFigure (ofText stoichiometricFraction (now (text .entry))) ⌝ }
+pub extern "C" fn jlw_stoichiometric_fraction(text: &[u8]) -> RoundedFigure
+    ensures { λ r. ⌜ r ≡ shownRounded (ofText stoichiometricFraction (now (text .entry))) ⌝ }
 {
     let read = read_formula(text);
     let fuel = read.atoms;
-    figure_unless(read.refusal, oxygen::stoichiometric_fraction(fuel))
+    rounded_unless(read.refusal, oxygen::stoichiometric_fraction(fuel))
 }
 
 #[no_mangle]
@@ -121,6 +124,7 @@ pub extern "C" fn jlw_mass_concentration(text: &[u8], temperature: i64) -> Limit
 pub extern "C" fn jlw_empty_blend() -> Blend
     ensures { λ r. ⌜ r ≡ emptyBlend ⌝ }
     ensures every_list { λ _. ⌜ ((calls : List Call) → Claims calls) ⌝ }
+    ensures marks { λ _. ⌜ ((calls : List Call) → MarksAlike calls) ⌝ }
 {
     blend::empty_blend()
 }
@@ -172,7 +176,7 @@ pub extern "C" fn jlw_join_blends(
 
 #[no_mangle]
 pub extern "C" fn jlw_blend_limits(total: u64, lower: u64, upper: u64) -> Limits
-    ensures { λ r. ⌜ r ≡ shownLimits (asking (blend-of total lower upper) (asked-limits none)) ⌝ }
+    ensures { λ r. ⌜ r ≡ shownLimits (askingMarked (blend-of total lower upper) (asked-limits none)) ⌝ }
     ensures at_most { λ r. ⌜ (r .lower ≤ 10000) × (r .upper ≤ 10000) ⌝ }
 {
     blend::blend_limits(Blend {
@@ -189,7 +193,7 @@ pub extern "C" fn jlw_blend_limits_at(
     upper: u64,
     temperature: i64,
 ) -> Limits
-    ensures { λ r. ⌜ r ≡ shownLimits (asking (blend-of total lower upper) (asked-limits (some temperature))) ⌝ }
+    ensures { λ r. ⌜ r ≡ shownLimits (askingMarked (blend-of total lower upper) (asked-limits (some temperature))) ⌝ }
     ensures at_most { λ r. ⌜ (r .lower ≤ 10000) × (r .upper ≤ 10000) ⌝ }
     ensures at_fit { λ _. ⌜ OneAtFit ⌝ }
 {

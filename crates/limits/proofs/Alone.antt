@@ -9,7 +9,9 @@ use Rattle.answer.specs.Numbers.{gasTemperatureOutside}
 use Rattle.answer.specs.Outcome.{Outcome, refused, answered, valueOf, andThen}
 use Rattle.answer.specs.Internal.{Numbered}
 use Rattle.answer.proofs.Outcomes.{refuse-numbered, andThen-numbered}
-use Rattle.rounding.proofs.Fractions.{is-same}
+use Rattle.answer.specs.declared.Rounded.{Rounded}
+use Rattle.rounding.specs.Fraction.{rounded}
+use Rattle.rounding.proofs.Fractions.{is-same, rounded-by-value}
 use Rattle.elements.specs.declared.Atoms.{Atoms}
 use Rattle.oxygen.specs.declared.Purpose.the-variants.{GasLimits}
 use Rattle.oxygen.specs.Admission.{admission}
@@ -18,35 +20,35 @@ use Rattle.blend.specs.Limit.{Side, lower, upper}
 use Rattle.blend.specs.declared.Blend.{Blend}
 use Rattle.blend.specs.Temperature.{meant, gasOutside}
 use Rattle.blend.specs.Fuel.{Fuel, fuelAtoms, admitting, quarters}
-use Rattle.blend.specs.Blend.{limits, LimitPair, emptyBlend, adding, asking}
+use Rattle.blend.specs.Blend.{limits, LimitPair, emptyBlend, adding, askingMarked}
 use Rattle.blend.specs.Calls.{add, changed, put, answerTo, next, after}
-use Rattle.blend.specs.Model.{entry, Entries, sum, limitAt, limitFigure, modelAdds, modelTells, modelAsks}
+use Rattle.blend.specs.Model.{entry, Entries, sum, limitAt, limitAs, modelAdds, modelTells, modelAsksAs, modelAsksMarked}
 use Rattle.blend.proofs.Weights.{limit-is}
 use Rattle.blend.proofs.Admitted.{admission-facts}
 use Rattle.blend.proofs.LeChatelier.{same-at, le-chatelier-is}
-use Rattle.blend.proofs.Theorem.{claims}
+use Rattle.blend.proofs.Theorem.{claims, marks-alike}
 use Rattle.limits.specs.FuelLimits.{fuelFigure, fuelLimits, AsBlend}
 
 -- LE CHATELIER over one entry of 1 part
 abbrev single : Atoms → Entries
 single a = entry a 1 ∷ []
 
-alone-figure : (s : Side) (a : Atoms) (t : ℕ) → limitFigure s (single a) t ≡ fuelFigure s (quarters a) t
-unfolding limitFigure limitAt fuelFigure sum
+alone-figure : (s : Side) (a : Atoms) (t : ℕ) → limitAs rounded s (single a) t ≡ fuelFigure s (quarters a) t
+unfolding limitAs limitAt fuelFigure sum
 alone-figure s a t =
     let i = le-chatelier-is s (single a) (omega arith) in
-    same-at s t i (is-same (limit-is s (quarters a)) (i .pos) (omega arith))
+    same-at rounded rounded-by-value s t i (is-same (limit-is s (quarters a)) (i .pos) (omega arith))
 
 -- AS THE MODEL
 module _ (t : Option ℤ) where
-  abbrev modelled : Outcome Entries → Outcome LimitPair
-  modelled o = andThen o (λ es. modelAsks es (limits t))
+  abbrev modelled : Outcome Entries → Outcome (LimitPair Rounded)
+  modelled o = andThen o (λ es. modelAsksMarked es (limits t))
 
   counts-by-model : (a : Atoms) (o : Outcome ℕ) → admission GasLimits a ≡ o → fuelLimits t a ≡ modelled (andThen (andThen o (λ q. answered a)) (λ x. answered (single x)))
-  unfolding fuelLimits modelTells modelAsks sum
+  unfolding fuelLimits modelTells modelAsksAs sum
   counts-by-model a (refused r) e = rw e
   counts-by-model a (answered q) e =
-      let same : (s : Side) → fuelFigure s q (natAbs (meant t)) ≡ limitFigure s (single a) (natAbs (meant t)) =
+      let same : (s : Side) → fuelFigure s q (natAbs (meant t)) ≡ limitAs rounded s (single a) (natAbs (meant t)) =
       λ s. ap (λ (k : ℕ). fuelFigure s k (natAbs (meant t))) (admission-facts a q e .0) ∙ sym (alone-figure s a (natAbs (meant t))) in
       rw (e, same lower, same upper)
 
@@ -60,8 +62,8 @@ module _ (t : Option ℤ) where
 
 -- AS A BLEND
 module _ (f : Fuel) (t : Option ℤ) where
-  same-asked : (o : Outcome Blend) (m : Outcome Entries) → changed o ≡ changed m → asking (valueOf emptyBlend o) (limits t) ≡ modelAsks (valueOf [] m) (limits t)
-      → andThen o (λ b. asking b (limits t)) ≡ modelled t m
+  same-asked : (o : Outcome Blend) (m : Outcome Entries) → changed o ≡ changed m → askingMarked (valueOf emptyBlend o) (limits t) ≡ modelAsksMarked (valueOf [] m) (limits t)
+      → andThen o (λ b. askingMarked b (limits t)) ≡ modelled t m
   same-asked (refused r) (refused n) e h = cc
   same-asked (refused r) (answered es) e h = let z : _≡_ {A = ℕ} 0 1 = cc in absurd (omega arith)
   same-asked (answered b) (refused n) e h = let z : _≡_ {A = ℕ} 0 1 = cc in absurd (omega arith)
@@ -70,7 +72,7 @@ module _ (f : Fuel) (t : Option ℤ) where
   pub as-blend : AsBlend f t
   unfolding answerTo after next put
   as-blend =
-      let both = same-asked (adding emptyBlend f 1) (modelAdds [] f 1) (claims [] .next (add 0 f 1)) (claims (add 0 f 1 ∷ []) .by-entries 0 (limits t)) in
+      let both = same-asked (adding emptyBlend f 1) (modelAdds [] f 1) (claims [] .next (add 0 f 1)) (marks-alike (add 0 f 1 ∷ []) .by-entries 0 (limits t)) in
       record { of-blend = by-model t f ∙ sym both; of-model = by-model t f }
 
 -- a refusal has a number

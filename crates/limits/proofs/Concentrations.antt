@@ -8,7 +8,8 @@ use Rattle.answer.specs.Numbers.{gasTemperatureOutside}
 use Rattle.answer.specs.Outcome.{Outcome, refused, answered, andThen, refuse}
 use Rattle.answer.proofs.Outside.{inside-is}
 use Rattle.answer.proofs.Outcomes.{refuse-passed, apart}
-use Rattle.rounding.proofs.Fractions.{Is, is-over, is-whole, is-times, is-by, is-same, figure-is}
+use Rattle.answer.specs.declared.Rounded.{Rounded}
+use Rattle.rounding.proofs.Fractions.{Is, is-over, is-whole, is-times, is-by, is-same, rounded-is}
 use Rattle.elements.specs.declared.Atoms.{Atoms}
 use Rattle.elements.specs.Elements.{weightedSum}
 use Rattle.elements.specs.Internal.{AtMost200}
@@ -31,10 +32,10 @@ pub concentration-is : (a : Atoms) → AtMost200 a → (t limit : ℕ) → rate 
 unfolding concentration rate
 concentration-is a few t limit =
     let top = is-times (is-times (is-whole 10) (mass-is a few)) (is-over limit 100 (omega arith)) in
-    sym (figure-is (is-same (is-times (is-whole 100) (is-by top (volume-is t) (omega arith))) (omega arith) (omega arith)))
+    sym (rounded-is (is-same (is-times (is-whole 100) (is-by top (volume-is t) (omega arith))) (omega arith) (omega arith)))
 
 -- where limits were answered
-pub asked-facts : (a : Atoms) (z : ℤ) (l : LimitPair) → fuelLimits (some z) a ≡ answered l → AtMost200 a × (natAbs z ≤ 20000)
+pub asked-facts : (a : Atoms) (z : ℤ) (l : LimitPair Rounded) → fuelLimits (some z) a ≡ answered l → AtMost200 a × (natAbs z ≤ 20000)
 unfolding fuelLimits
 asked-facts a z l = go (admission GasLimits a) refl
   where

@@ -7,11 +7,13 @@ ghost use Rattle.blend.specs.Blend.{shownLimits};
 ghost use Rattle.limits.specs.FuelLimits.{fuelLimits, AsBlend};
 ghost use Rattle.limits.specs.Concentration.{massConcentration};
 ghost use Rattle.limits.specs.Internal.{rate};
+use answer::Rounded;
 use blend::Limits;
 use blend::USUAL_TEMPERATURE;
 use blend::add_fuel;
 use blend::blend_limits_at;
 use blend::empty_blend;
+use blend::limits_of;
 use blend::molar_mass;
 use blend::no_limits;
 use elements::Atoms;
@@ -43,14 +45,14 @@ pub fn fuel_limits(fuel: Atoms) -> Limits
 }
 
 // The mass concentration at a limit, for a molar mass in halves: 10 M φ / Vm as one quotient.
-fn rate_of(mass: u64, t: u64, limit: u64) -> u64
+fn rate_of(mass: u64, t: u64, limit: u64) -> Rounded
     requires { ⌜ (mass ≤ 40000) × (t ≤ 20000) × (limit ≤ 10000) ⌝ }
     ensures { λ r. ⌜ r ≡ rate mass t limit ⌝ }
 {
     round_div(mass * limit * 5000 * 27315, 22414 * (t + 27315))
 }
 
-// The mass concentration of a fuel at both limits, in 0.01 g/m³. Refusals 2, 3, 4, 10.
+// The mass concentration of a fuel at both limits, in 0.01 g/m³; the limits are those answered, so a mark tells of the last rounding alone. Refusals 2, 3, 4, 10.
 pub fn mass_concentration(fuel: Atoms, temperature: i64) -> Limits
     ensures { λ r. ⌜ r ≡ shownLimits (massConcentration temperature fuel) ⌝ }
 {
@@ -61,9 +63,7 @@ pub fn mass_concentration(fuel: Atoms, temperature: i64) -> Limits
     }
     let mass = molar_mass(fuel);
     let t = size(temperature);
-    Limits {
-        refusal: answer::NOT_REFUSED,
-        lower: rate_of(mass, t, limits.lower),
-        upper: rate_of(mass, t, limits.upper),
-    }
+    let lower = rate_of(mass, t, limits.lower);
+    let upper = rate_of(mass, t, limits.upper);
+    limits_of(lower, upper)
 }

@@ -2,12 +2,15 @@
 ghost use mathlib.Core.Path.{_≡_};
 ghost use mathlib.Core.Option.{Option·getD};
 ghost use Prim.Native.Nat.{_≤_};
-ghost use Rattle.answer.specs.Outcome.{shownFigure};
+ghost use Rattle.answer.specs.Outcome.{shownFigure, shownRounded};
 ghost use Rattle.oxygen.specs.Admission.{most, notAdmitted, admission, oxygenCoefficient};
 ghost use Rattle.oxygen.specs.Stoichiometric.{stoichiometricFraction};
 use answer::Figure;
+use answer::RoundedFigure;
 use answer::answered_figure;
+use answer::answered_rounded;
 use answer::refused_figure;
+use answer::refused_rounded;
 use elements::Atoms;
 use elements::each;
 use elements::first_above;
@@ -83,13 +86,13 @@ pub fn oxygen_coefficient(atoms: Atoms) -> Figure
 }
 
 // The stoichiometric fraction in hundredths of a percent.
-pub fn stoichiometric_fraction(atoms: Atoms) -> Figure
-    ensures { λ r. ⌜ r ≡ shownFigure (stoichiometricFraction atoms) ⌝ }
+pub fn stoichiometric_fraction(atoms: Atoms) -> RoundedFigure
+    ensures { λ r. ⌜ r ≡ shownRounded (stoichiometricFraction atoms) ⌝ }
 {
     let beta = oxygen_coefficient(atoms);
     let declined = beta.refusal;
     if 0 < declined.number {
-        return beta;
+        return refused_rounded(declined.number, declined.place);
     }
-    answered_figure(round_div(1000000, 121 * beta.value + 100))
+    answered_rounded(round_div(1000000, 121 * beta.value + 100))
 }

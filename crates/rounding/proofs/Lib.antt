@@ -1,4 +1,5 @@
 pub mod Signed
 pub mod Division
+pub mod Marks
 pub mod Rounding
 pub mod Fractions

@@ -1,9 +1,10 @@
--- Exact fractions of whole numbers, with operations under names of their own, and the figure that one is answered as.
+-- Exact fractions of whole numbers, with operations under names of their own, and the figure that one is answered as, with its mark.
 -- A fraction over 0 stands for no number; no law speaks of one.
 use mathlib.Core.Path.{_≡_}
 use mathlib.Core.Bool.{Bool}
 use Prim.Native.Nat.{ℕ, _+_, _*_, _≤_, _<_}
 use lib.Dec.{leb}
+use Rattle.answer.specs.declared.Rounded.{Rounded}
 use Rattle.rounding.specs.Round.{roundDiv}
 
 pub record Fraction : Type 0 where
@@ -51,6 +52,9 @@ _≃_ f g = Compares (λ m n. m ≡ n) f g
 unfoldable pub atMost : Fraction → Fraction → Bool
 atMost f g = leb (f .num * g .den) (g .num * f .den)
 
--- the figure: the exact fraction rounded once
+-- the exact fraction rounded once, with its mark; and the figure alone
+unfoldable pub rounded : Fraction → Rounded
+rounded f = roundDiv (f .num) (f .den)
+
 unfoldable pub figure : Fraction → ℕ
-figure f = roundDiv (f .num) (f .den)
+figure f = rounded f .value

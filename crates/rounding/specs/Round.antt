@@ -1,6 +1,11 @@
--- Rounding once, halves away from zero (document 01, "Rounded").
+-- Rounding once, halves away from zero (document 01, "Rounded"), and the mark of a rounded figure (document 02, change request k).
+use mathlib.Core.Bool.{cond}
 use Prim.Native.Nat.{ℕ, suc, _+_, _*_, _/_, _%_}
-use lib.IntN.{ℤ, pos, negsuc, negℤ}
+use lib.Dec.{eqb, ltb}
+use lib.IntN.{ℤ, pos, negsuc, negℤ, natAbs}
+use Rattle.answer.specs.declared.Rounded.{Rounded}
+use Rattle.answer.specs.declared.RoundedSigned.{RoundedSigned}
+use Rattle.answer.specs.Marks.{exact, raised, lowered}
 use Rattle.rounding.specs.declared.Quotient.{Quotient}
 
 -- quotient and remainder; by 0 the quotient is 0 and the remainder n
@@ -8,10 +13,21 @@ abbrev pub divided : ℕ → ℕ → Quotient
 divided n d = record { quotient = n / d; remainder = n % d }
 
 -- n / d rounded; by 0 it is 0
-unfoldable pub roundDiv : ℕ → ℕ → ℕ
-roundDiv n d = (2 * n + d) / (2 * d)
+unfoldable pub roundedValue : ℕ → ℕ → ℕ
+roundedValue n d = (2 * n + d) / (2 * d)
 
--- the same of a signed number: its size is rounded, its sign is kept
-unfoldable pub roundDivℤ : ℤ → ℕ → ℤ
-roundDivℤ (pos n) d = pos (roundDiv n d)
-roundDivℤ (negsuc n) d = negℤ (pos (roundDiv (suc n) d))
+-- the mark of r in the place of n / d: r d against n; by 0 it is 0
+unfoldable pub markOf : ℕ → ℕ → ℕ → ℕ
+markOf n d r = cond (eqb d 0) exact (cond (ltb n (r * d)) raised (cond (ltb (r * d) n) lowered exact))
+
+-- both
+unfoldable pub roundDiv : ℕ → ℕ → Rounded
+roundDiv n d = record { value = roundedValue n d; mark = markOf n d (roundedValue n d) }
+
+-- the same of a signed number: its size is rounded, its sign is kept, and the mark is that of its size
+unfoldable pub roundedValueℤ : ℤ → ℕ → ℤ
+roundedValueℤ (pos n) d = pos (roundedValue n d)
+roundedValueℤ (negsuc n) d = negℤ (pos (roundedValue (suc n) d))
+
+unfoldable pub roundDivℤ : ℤ → ℕ → RoundedSigned
+roundDivℤ z d = record { value = roundedValueℤ z d; mark = roundDiv (natAbs z) d .mark }

@@ -1,24 +1,37 @@
--- What rounding means, apart from how it is computed.
+-- What rounding and its mark mean, apart from how they are computed.
 use mathlib.Core.Path.{_≡_}
 use Prim.Native.Nat.{ℕ, _+_, _*_, _≤_, _<_}
 use lib.IntN.{ℤ, pos, negℤ, natAbs, _-ℤ_, _*ℤ_}
-use Rattle.rounding.specs.Round.{roundDiv, roundDivℤ}
+use Rattle.answer.specs.declared.Rounded.{Rounded}
+use Rattle.answer.specs.declared.RoundedSigned.{RoundedSigned}
+use Rattle.answer.specs.Outcome.{noFigure}
+use Rattle.answer.specs.Marks.{exact, raised, lowered}
+use Rattle.rounding.specs.Round.{roundedValue, roundDiv, roundDivℤ}
 
 -- (r − 1/2) d ≤ n < (r + 1/2) d
 pub record Nearest (n d r : ℕ) : Type 0 where
   pub low : 2 * (r * d) ≤ 2 * n + d
   pub high : 2 * n < 2 * (r * d) + d
 
--- r is n / d rounded: nearest, halves up, and the only such number; equal fractions round alike; a larger one to no less
-pub record Rounds (n d r : ℕ) : Type 0 where
-  pub nearest : 0 < d → Nearest n d r
-  pub only : (s : ℕ) → Nearest n d s → s ≡ r
-  pub alike : (m e : ℕ) → 0 < d → 0 < e → n * e ≡ m * d → roundDiv m e ≡ r
-  pub monotone : (m e : ℕ) → 0 < d → 0 < e → n * e ≤ m * d → r ≤ roundDiv m e
-  pub by-zero : d ≡ 0 → r ≡ 0
+-- what the mark of r in the place of n / d says: r d is n, exceeds it, or is below it
+pub data Marked (n d r : ℕ) : ℕ → Type 0 where
+  is-exact : r * d ≡ n → Marked n d r exact
+  is-raised : n < r * d → Marked n d r raised
+  is-lowered : r * d < n → Marked n d r lowered
 
--- r is z / d rounded: at most 1/2 away, its size that of z rounded, so that halves go away from zero on both sides
-pub record Roundsℤ (z : ℤ) (d : ℕ) (r : ℤ) : Type 0 where
-  pub near : 0 < d → 2 * natAbs (z -ℤ r *ℤ pos d) ≤ d
-  pub size : natAbs r ≡ roundDiv (natAbs z) d
-  pub odd : roundDivℤ (negℤ z) d ≡ negℤ r
+-- r is n / d rounded: nearest, halves up, and the only such number, with its mark; equal fractions have the same value and mark; a larger one has no
+-- smaller value
+pub record Rounds (n d : ℕ) (r : Rounded) : Type 0 where
+  pub nearest : 0 < d → Nearest n d (r .value)
+  pub only : (s : ℕ) → Nearest n d s → s ≡ r .value
+  pub marked : 0 < d → Marked n d (r .value) (r .mark)
+  pub alike : (m e : ℕ) → 0 < d → 0 < e → n * e ≡ m * d → roundDiv m e ≡ r
+  pub monotone : (m e : ℕ) → 0 < d → 0 < e → n * e ≤ m * d → r .value ≤ roundDiv m e .value
+  pub by-zero : d ≡ 0 → r ≡ noFigure
+
+-- r is z / d rounded: at most 1/2 away, its size that of z rounded, so that halves go away from zero on both sides; the mark speaks of the sizes
+pub record Roundsℤ (z : ℤ) (d : ℕ) (r : RoundedSigned) : Type 0 where
+  pub near : 0 < d → 2 * natAbs (z -ℤ r .value *ℤ pos d) ≤ d
+  pub size : natAbs (r .value) ≡ roundDiv (natAbs z) d .value
+  pub marked : 0 < d → Marked (natAbs z) d (natAbs (r .value)) (r .mark)
+  pub odd : roundDivℤ (negℤ z) d .value ≡ negℤ (r .value)

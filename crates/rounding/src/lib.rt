@@ -1,4 +1,4 @@
-// Quotients of whole numbers by shifts, compares and subtractions: exact, and rounded once. No file divides but by a constant power of two.
+// Quotients of whole numbers by shifts, compares and subtractions: exact, and rounded once with their mark. No file divides but by a constant power of two.
 ghost use mathlib.Core.Path.{_≡_};
 ghost use mathlib.Core.Bool.{cond};
 ghost use lib.Dec.{leb};
@@ -7,6 +7,8 @@ ghost use lib.IntN.{pos, negℤ, natAbs};
 ghost use Rattle.rounding.specs.Round.{divided, roundDiv, roundDivℤ};
 ghost use Rattle.rounding.specs.Rounds.{Rounds, Roundsℤ};
 ghost use Rattle.rounding.specs.Internal.{Doubled};
+use answer::Rounded;
+use answer::RoundedSigned;
 
 #[repr(C)]
 pub struct Quotient {
@@ -73,21 +75,36 @@ pub fn divide(n: u64, d: u64) -> Quotient
     subtracted(n, d, doubled(n, d))
 }
 
-// n / d rounded once, halves up. By 0 it is 0.
-pub fn round_div(n: u64, d: u64) -> u64
+// n / d rounded once, halves up, and whether that is exact, raised or lowered. By 0 both are 0.
+pub fn round_div(n: u64, d: u64) -> Rounded
     ensures { λ r. ⌜ r ≡ roundDiv n d ⌝ }
     ensures rounds { λ r. ⌜ Rounds n d r ⌝ }
 {
     if d == 0 {
-        return 0;
+        return Rounded {
+            value: 0,
+            mark: answer::EXACT,
+        };
     }
     let exact = divide(n, d);
     let q = exact.quotient;
     let rest = exact.remainder;
-    if d - rest <= rest {
-        return q + 1;
+    if rest == 0 {
+        return Rounded {
+            value: q,
+            mark: answer::EXACT,
+        };
     }
-    q
+    if d - rest <= rest {
+        return Rounded {
+            value: q + 1,
+            mark: answer::RAISED,
+        };
+    }
+    Rounded {
+        value: q,
+        mark: answer::LOWERED,
+    }
 }
 
 // The size of a signed number. (0 - n does not fit at the least one.)
@@ -113,14 +130,20 @@ fn negated(size: u64) -> i64
     -1 - below
 }
 
-// n / d rounded once, halves away from zero. By 0 it is 0.
-pub fn round_div_signed(n: i64, d: u64) -> i64
+// n / d rounded once, halves away from zero, with the mark of its size. By 0 both are 0.
+pub fn round_div_signed(n: i64, d: u64) -> RoundedSigned
     ensures { λ r. ⌜ r ≡ roundDivℤ n d ⌝ }
     ensures rounds { λ r. ⌜ Roundsℤ n d r ⌝ }
 {
     let quotient = round_div(size(n), d);
     if n < 0 {
-        return negated(quotient);
+        return RoundedSigned {
+            value: negated(quotient.value),
+            mark: quotient.mark,
+        };
     }
-    quotient as i64
+    RoundedSigned {
+        value: quotient.value as i64,
+        mark: quotient.mark,
+    }
 }

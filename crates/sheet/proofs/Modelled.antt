@@ -5,15 +5,16 @@ use mathlib.Core.List.{List, [], _∷_}
 use mathlib.Core.Option.{Option, some, none}
 use Prim.Native.Nat.{ℕ, suc}
 use Rattle.answer.specs.declared.Refusal.{Refusal}
+use Rattle.answer.specs.declared.Rounded.{Rounded}
 use Rattle.answer.specs.Numbers.{badSheet}
 use Rattle.answer.specs.Outcome.{Outcome, refused, answered, refuse, refuseAt, valueOf, andThen}
 use Rattle.csv.specs.Sheet.{headed, records, firstBadRecord}
 use Rattle.blend.specs.declared.Blend.{Blend}
 use Rattle.blend.specs.Fuel.{text}
 use Rattle.blend.specs.Calls.{changed, put, next, answers, answerTo, after}
-use Rattle.blend.specs.Blend.{emptyBlend, adding, limits, LimitPair, asking}
+use Rattle.blend.specs.Blend.{emptyBlend, adding, limits, LimitPair, askingMarked}
 use Rattle.blend.specs.Claims.{keeper, blends, blendAnswers}
-use Rattle.blend.proofs.Theorem.{claims}
+use Rattle.blend.proofs.Theorem.{claims, marks-alike}
 use Rattle.sheet.specs.Mixture.{header, goodMixture, recordFormula, recordParts, atRecord, addingAll, sheetAnswer}
 use Rattle.sheet.specs.ByModel.{addings, firstRefusal, unlessRefused, ByModel}
 
@@ -43,8 +44,7 @@ pub by-model : (s : List ℕ) → ByModel s
 unfolding sheetAnswer
 by-model s =
     let cs = addings (records s) in
-    let c = claims cs in
-    ap (λ (o : Outcome LimitPair). refuse badSheet 0 (not (headed header s)) (refuseAt badSheet (firstBadRecord goodMixture (records s)) o))
-    (ap (λ (o : Outcome Blend). andThen o (λ b. asking b (limits none))) (all-added (λ i. emptyBlend) 1 (records s))
-    ∙ unless-then (firstRefusal 1 (blendAnswers cs)) (blends cs 0) (λ b. asking b (limits none))
-    ∙ rw (c .answered, c .by-entries 0 (limits none)))
+    ap (λ (o : Outcome (LimitPair Rounded)). refuse badSheet 0 (not (headed header s)) (refuseAt badSheet (firstBadRecord goodMixture (records s)) o))
+    (ap (λ (o : Outcome Blend). andThen o (λ b. askingMarked b (limits none))) (all-added (λ i. emptyBlend) 1 (records s))
+    ∙ unless-then (firstRefusal 1 (blendAnswers cs)) (blends cs 0) (λ b. askingMarked b (limits none))
+    ∙ rw (claims cs .answered, marks-alike cs .by-entries 0 (limits none)))

@@ -11,9 +11,9 @@ use Rattle.text.specs.Decimal.{decimal}
 use Rattle.text.specs.Writing.{placed, shownLength, holding}
 use Rattle.blend.specs.declared.Limits.{Limits}
 
--- an answer by its numbers
+-- an answer by its numbers; the text has no marks
 abbrev pub answerOf : Refusal → ℕ → ℕ → Limits
-answerOf r lower upper = record { refusal = r; lower = lower; upper = upper }
+answerOf r lower upper = record { refusal = r; lower = lower; upper = upper; «lower_mark» = 0; «upper_mark» = 0 }
 
 -- hundredths of a percent as percent with two decimals
 unfoldable pub percent : ℕ → List ℕ

@@ -11,7 +11,7 @@ use Rattle.csv.specs.Sheet.{headed, records, firstBadRecord}
 use Rattle.blend.specs.Fuel.{text}
 use Rattle.blend.specs.Blend.{limits}
 use Rattle.blend.specs.Calls.{Call, add, Answer, done, told, declined}
-use Rattle.blend.specs.Model.{modelAsks}
+use Rattle.blend.specs.Model.{modelAsksMarked}
 use Rattle.blend.specs.Claims.{entries, modelAnswers}
 use Rattle.sheet.specs.Mixture.{header, goodMixture, recordFormula, recordParts, sheetAnswer}
 
@@ -36,4 +36,4 @@ ByModel s =
     sheetAnswer s
     ≡ refuse badSheet 0 (not (headed header s))
     (refuseAt badSheet (firstBadRecord goodMixture (records s))
-    (unlessRefused (firstRefusal 1 (modelAnswers (addings (records s)))) (modelAsks (entries (addings (records s)) 0) (limits none))))
+    (unlessRefused (firstRefusal 1 (modelAnswers (addings (records s)))) (modelAsksMarked (entries (addings (records s)) 0) (limits none))))

@@ -6,6 +6,7 @@ use Prim.Native.Nat.{ℕ, suc, _+_, _*_, _-_}
 use lib.Dec.{leb, eqb}
 use lib.ListN.{length, getD}
 use Rattle.answer.specs.Numbers.{badSheet}
+use Rattle.answer.specs.declared.Rounded.{Rounded}
 use Rattle.answer.specs.Outcome.{Outcome, refused, answered, refusal, refuse, refuseAt, andThen}
 use Rattle.text.specs.Bytes.{byte, bytes}
 use Rattle.text.specs.Decimal.{digitFrom}
@@ -13,7 +14,7 @@ use Rattle.csv.specs.Lines.{fields, all}
 use Rattle.csv.specs.Sheet.{headed, records, goodRecord, firstBadRecord}
 use Rattle.blend.specs.declared.Blend.{Blend}
 use Rattle.blend.specs.Fuel.{text}
-use Rattle.blend.specs.Blend.{emptyBlend, adding, limits, LimitPair, asking}
+use Rattle.blend.specs.Blend.{emptyBlend, adding, limits, LimitPair, askingMarked}
 
 -- FORM
 abbrev pub header : List ℕ
@@ -50,8 +51,8 @@ addingAll b k [] = answered b
 addingAll b k (l ∷ ls) = andThen (atRecord k (adding b (text (recordFormula l)) (recordParts l))) (λ c. addingAll c (suc k) ls)
 
 -- THE ANSWER: form for the whole sheet first, then the records in order, then the limits of them all without a named temperature
-unfoldable pub sheetAnswer : List ℕ → Outcome LimitPair
+unfoldable pub sheetAnswer : List ℕ → Outcome (LimitPair Rounded)
 sheetAnswer s =
     refuse badSheet 0 (not (headed header s))
     (refuseAt badSheet (firstBadRecord goodMixture (records s))
-    (andThen (addingAll emptyBlend 1 (records s)) (λ b. asking b (limits none))))
+    (andThen (addingAll emptyBlend 1 (records s)) (λ b. askingMarked b (limits none))))

@@ -2,7 +2,7 @@
 ghost use mathlib.Core.Path.{_≡_};
 ghost use mathlib.Core.Option.{some};
 ghost use Prim.Native.Nat.{_≤_};
-ghost use Rattle.answer.specs.Outcome.{shownFigure, shownTemperature};
+ghost use Rattle.answer.specs.Outcome.{shownFigure, shownTemperature, shownRounded, shownRoundedTemperature};
 ghost use Rattle.rounding.specs.Round.{divided};
 ghost use Rattle.text.specs.Writing.{Longest};
 ghost use Rattle.oxygen.specs.Admission.{oxygenCoefficient};
@@ -21,6 +21,8 @@ use analyser::Method;
 use analyser::Reading;
 use answer::Figure;
 use answer::Refusal;
+use answer::RoundedFigure;
+use answer::RoundedTemperature;
 use answer::Temperature;
 use blend::Blend;
 use blend::Blended;
@@ -43,15 +45,15 @@ pub extern "C" fn jlt_flash_by_bonds(
     atoms: Atoms,
     bonds: Bonds,
     boiling: i64,
-) -> Temperature
-    ensures { λ r. ⌜ r ≡ shownTemperature (byBonds method atoms bonds boiling) ⌝ }
+) -> RoundedTemperature
+    ensures { λ r. ⌜ r ≡ shownRoundedTemperature (byBonds method atoms bonds boiling) ⌝ }
 {
     flash::flash_by_bonds(method, atoms, bonds, boiling)
 }
 
 #[no_mangle]
-pub extern "C" fn jlt_flash_by_class(class: u64, boiling: i64) -> Temperature
-    ensures { λ r. ⌜ r ≡ shownTemperature (byClass class boiling) ⌝ }
+pub extern "C" fn jlt_flash_by_class(class: u64, boiling: i64) -> RoundedTemperature
+    ensures { λ r. ⌜ r ≡ shownRoundedTemperature (byClass class boiling) ⌝ }
 {
     flash::flash_by_class(class, boiling)
 }
@@ -83,24 +85,24 @@ pub extern "C" fn jlt_lower_temperature_limit(
 }
 
 #[no_mangle]
-pub extern "C" fn jlt_parts_of_percent(limit: f64, ceiling: f64, reading: f64) -> Figure
-    ensures { λ r. ⌜ r ≡ shownFigure (partsOf (methodOf limit ceiling) (Percent reading)) ⌝ }
+pub extern "C" fn jlt_parts_of_percent(limit: f64, ceiling: f64, reading: f64) -> RoundedFigure
+    ensures { λ r. ⌜ r ≡ shownRounded (partsOf (methodOf limit ceiling) (Percent reading)) ⌝ }
     ensures at_most { λ r. ⌜ r .value ≤ 1000000 ⌝ }
 {
     analyser::parts_of(Method { limit, ceiling }, Reading::Percent(reading))
 }
 
 #[no_mangle]
-pub extern "C" fn jlt_parts_of_ppm(limit: f64, ceiling: f64, reading: f64) -> Figure
-    ensures { λ r. ⌜ r ≡ shownFigure (partsOf (methodOf limit ceiling) (Ppm reading)) ⌝ }
+pub extern "C" fn jlt_parts_of_ppm(limit: f64, ceiling: f64, reading: f64) -> RoundedFigure
+    ensures { λ r. ⌜ r ≡ shownRounded (partsOf (methodOf limit ceiling) (Ppm reading)) ⌝ }
     ensures at_most { λ r. ⌜ r .value ≤ 1000000 ⌝ }
 {
     analyser::parts_of(Method { limit, ceiling }, Reading::Ppm(reading))
 }
 
 #[no_mangle]
-pub extern "C" fn jlt_parts_of_overload(limit: f64, ceiling: f64) -> Figure
-    ensures { λ r. ⌜ r ≡ shownFigure (partsOf (methodOf limit ceiling) Overload) ⌝ }
+pub extern "C" fn jlt_parts_of_overload(limit: f64, ceiling: f64) -> RoundedFigure
+    ensures { λ r. ⌜ r ≡ shownRounded (partsOf (methodOf limit ceiling) Overload) ⌝ }
     ensures at_most { λ r. ⌜ r .value ≤ 1000000 ⌝ }
 {
     analyser::parts_of(Method { limit, ceiling }, Reading::Overload)
@@ -153,6 +155,8 @@ pub extern "C" fn jlt_write_sheet_answer(
         refusal: declined,
         lower,
         upper,
+        lower_mark: 0,
+        upper_mark: 0,
     };
     sheet::write_answer(answer, out)
 }

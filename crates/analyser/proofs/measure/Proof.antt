@@ -6,17 +6,19 @@ use native.Mathlib.Omega.{arith}
 use lib.Ieee.{le}
 use borrow.Author.Needs.{needs}
 use borrow.Author.Tests.{not-true, not-false}
-use Rattle.answer.specs.declared.Figure.{Figure}
-use Rattle.answer.specs.Outcome.{answered, shownFigure}
+use Rattle.answer.specs.declared.Rounded.{Rounded}
+use Rattle.answer.specs.declared.RoundedFigure.{RoundedFigure}
+use Rattle.answer.specs.Outcome.{answered, shownRounded}
+use Rattle.answer.specs.Marks.{exact}
 use Rattle.rounding.specs.Fraction.{atMost}
 use Rattle.analyser.specs.Reading.{amount, upTo, goodMethod, converted, measured}
 use Rattle.analyser.specs.Internal.{Scaled}
 use Rattle.analyser.proofs.Order.{le-is}
-use Rattle.analyser.proofs.Admitted.{up-to-amount, ceiling-is, limit-is, most-parts, figure-most}
+use Rattle.analyser.proofs.Admitted.{up-to-amount, ceiling-is, limit-is, most-parts, rounded-most}
 use Rattle.analyser.proofs.measure.Statement.{statement}
 use Rattle.analyser.proofs.measure.Tie as tie
 
-abbrev value : Figure → ℕ
+abbrev value : RoundedFigure → ℕ
 value f = f .value
 
 good : (c : tie.Else1) → goodMethod (amount (c .before .before .args .top)) (c .before .before .args .method) ≡ true
@@ -43,14 +45,14 @@ returns : tie.Need-returns
 unfolding measured
 returns c =
     let g = c .before .before in
-    let e = c .refused-figure .ensures in
+    let e = c .refused-rounded .ensures in
     rw (sym (g .is-good .ensures) ∙ not-true _ (c .before .if1 .taken)) (e, omega (arith, ap value e))
 
 returns-2 : tie.Need-returns-2
 unfolding measured
 returns-2 c =
     let u = c .before .before in
-    let e = c .refused-figure2 .ensures in
+    let e = c .refused-rounded2 .ensures in
     rw (good (u .before), sym (u .is-up-to .ensures) ∙ not-true _ (c .before .if2 .taken)) (e, omega (arith, ap value e))
 
 -- the parts by the definition
@@ -63,11 +65,11 @@ unfolding measured
 returns-3 c =
     let w = c .before in
     let i = w .before .before .before in
-    let e = c .answered-figure .ensures in
+    let e = c .answered-rounded .ensures in
     rw (good (i .before .before), within i)
-    (e ∙ ap (λ (n : ℕ). shownFigure (answered n)) (parts w), omega (arith, ap value e, w .whole-parts .ensures, figure-most _ (scaled i .most)))
+    (e ∙ ap (λ (p : Rounded). shownRounded (answered p)) (parts w), omega (arith, ap value e, ap (λ (p : Rounded). p .value) (w .whole-parts .ensures), rounded-most _ (scaled i .most)))
 
-none : (c : tie.Else3) → let a = start (c .before .before) .args in 0 ≡ converted (a .factor * 2 ^ a .twos) (a .method) (a .x)
+none : (c : tie.Else3) → let a = start (c .before .before) .args in record { value = 0; mark = exact } ≡ converted (a .factor * 2 ^ a .twos) (a .method) (a .x)
 unfolding converted
 none c = rw (limit (c .before .before) ∙ c .if3 .left)
 
@@ -75,8 +77,8 @@ returns-4 : tie.Need-returns-4
 unfolding measured
 returns-4 c =
     let i = c .before .before .before in
-    let e = c .answered-figure2 .ensures in
-    rw (good (i .before .before), within i) (e ∙ ap (λ (n : ℕ). shownFigure (answered n)) (none (c .before)), omega (arith, ap value e))
+    let e = c .answered-rounded2 .ensures in
+    rw (good (i .before .before), within i) (e ∙ ap (λ (p : Rounded). shownRounded (answered p)) (none (c .before)), omega (arith, ap value e))
 
 pub measure-spec : {M : Type 1} → statement M
 measure-spec =

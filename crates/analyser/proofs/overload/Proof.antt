@@ -4,14 +4,14 @@ use Prim.Native.Nat.{ℕ}
 use native.Mathlib.Omega.{arith}
 use lib.Ieee.{ofBits}
 use borrow.Author.Tests.{not-true, not-false}
-use Rattle.answer.specs.declared.Figure.{Figure}
+use Rattle.answer.specs.declared.RoundedFigure.{RoundedFigure}
 use Rattle.rounding.specs.Fraction.{whole}
 use Rattle.analyser.specs.Reading.{goodMethod, overloaded}
 use Rattle.analyser.proofs.Admitted.{million-is}
 use Rattle.analyser.proofs.overload.Statement.{statement}
 use Rattle.analyser.proofs.overload.Tie as tie
 
-abbrev value : Figure → ℕ
+abbrev value : RoundedFigure → ℕ
 value f = f .value
 
 good : (c : tie.After-is-good) → goodMethod (whole 1000000) (c .before .args .method) ≡ c .is-good .result
@@ -24,13 +24,13 @@ is-good-requires c κs = tt
 returns : tie.Need-returns
 unfolding overloaded
 returns c =
-    let e = c .refused-figure .ensures in
+    let e = c .refused-rounded .ensures in
     rw (good (c .before .before) ∙ not-true _ (c .before .if1 .taken)) (e, omega (arith, ap value e))
 
 returns-2 : tie.Need-returns-2
 unfolding overloaded
 returns-2 c =
-    let e = c .refused-figure2 .ensures in
+    let e = c .refused-rounded2 .ensures in
     rw (good (c .before .before) ∙ not-false _ (c .before .if1 .left)) (e, omega (arith, ap value e))
 
 pub overload-spec : {M : Type 1} → statement M

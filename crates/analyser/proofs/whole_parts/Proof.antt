@@ -5,7 +5,7 @@ use native.Mathlib.Omega.{arith}
 use lib.Dec.{T}
 use lib.Ieee.{binary64, fits, toBits}
 use borrow.Author.Needs.{needs}
-use Rattle.rounding.specs.Fraction.{figure, whole, _⊠_}
+use Rattle.rounding.specs.Fraction.{rounded, whole, _⊠_}
 use Rattle.analyser.specs.Reading.{amount}
 use Rattle.analyser.proofs.Bits.{exponent, fraction, no-nan, below-half, Shifted, facts}
 use Rattle.analyser.proofs.whole_parts.Statement.{statement}
@@ -16,7 +16,7 @@ held : (c : tie.Start) → T (fits binary64 (c .args .x))
 held c = subst T (sym (c .good .0 .1)) tt
 
 known : (c : tie.Else1) → let a = c .before .args in let b = toBits binary64 (a .x) in
-    Shifted (exponent b) (fraction b) (a .factor) (a .twos) (figure (whole (a .factor * 2 ^ a .twos) ⊠ amount (a .x)))
+    Shifted (exponent b) (fraction b) (a .factor) (a .twos) (rounded (whole (a .factor * 2 ^ a .twos) ⊠ amount (a .x)))
 known c = facts (c .before .args .x) (c .before .args .factor) (c .before .args .twos) (held (c .before)) (c .before .pre) (omega arith)
 
 returns-2 : tie.Need-returns-2
@@ -28,7 +28,8 @@ whole-parts-spec =
     (tie.spec
     (λ c. no-nan _ (c .pre .is-amount))
     (λ c. omega (arith, c .pre .scale .small-twos))
-    (λ c. below-half _ _ _ (held (c .before)) (c .before .pre) (omega arith))
+    (λ c κs. tt)
+    (λ c. c .below-half .ensures ∙ below-half _ _ _ (held (c .before .before)) (c .before .before .pre) (omega arith))
     (λ c. search needs)
     (λ c. omega (arith, known c))
     (λ c. omega (arith, known c))

@@ -1,17 +1,21 @@
 -- `limits_from` meets its contract: each limit is one quotient.
 use mathlib.Core.Path.{ap₂, _∙_}
-use Prim.Native.Nat.{ℕ}
 use native.Mathlib.Omega.{arith}
 use borrow.Author.Needs.{needs}
+use Rattle.answer.specs.declared.Rounded.{Rounded}
+use Rattle.answer.specs.Outcome.{answered}
+use Rattle.blend.specs.Blend.{shownLimits}
 use Rattle.blend.proofs.Figures.{lower-figure, upper-figure}
 use Rattle.blend.proofs.limits_from.Statement.{statement}
 use Rattle.blend.proofs.limits_from.Tie as tie
 
 returns : tie.Need-returns
 returns c =
-    let a = c .before .before .args in
-    ap₂ (λ (x y : ℕ). record { refusal = record { number = 0; place = 0 }; lower = x; upper = y })
-    (c .before .rated .ensures ∙ lower-figure (a .b) (a .t) (omega arith)) (c .rated2 .ensures ∙ upper-figure (a .b) (a .t) (omega arith))
+    let r = c .before in
+    let a = r .before .before .args in
+    c .limits-of .ensures
+    ∙ ap₂ (λ (x y : Rounded). shownLimits (answered (record { lower = x; upper = y })))
+    (r .before .rated .ensures ∙ lower-figure (a .b) (a .t) (omega arith)) (r .rated2 .ensures ∙ upper-figure (a .b) (a .t) (omega arith))
 
 pub limits-from-spec : {M : Type 1} → statement M
 limits-from-spec =
@@ -21,4 +25,5 @@ limits-from-spec =
     (λ c κs. search needs)
     (λ c. search needs)
     (λ c κs. search needs)
+    (λ c κs. tt)
     returns)

@@ -52,19 +52,19 @@ admitted c = boiling (c .before) ∙ c .if5 .left
 
 returns : tie.Need-returns
 unfolding byBonds
-returns c = rw (sym (c .before .before .is-outside .ensures) ∙ c .before .if1 .taken) (c .refused-temperature .ensures)
+returns c = rw (sym (c .before .before .is-outside .ensures) ∙ c .before .if1 .taken) (c .refused-rounded-temperature .ensures)
 
 returns-2 : tie.Need-returns-2
 unfolding byBonds
 returns-2 c =
     let f = c .before .before in
-    rw (known (f .before) .0, found-at (aboveAt _ _) _ (f .first-above-200 .ensures) (omega arith)) (c .refused-temperature2 .ensures)
+    rw (known (f .before) .0, found-at (aboveAt _ _) _ (f .first-above-200 .ensures) (omega arith)) (c .refused-rounded-temperature2 .ensures)
 
 returns-3 : tie.Need-returns-3
 unfolding byBonds
 returns-3 c =
     let h = c .before .before in
-    rw (known (h .before .before .before) .0, few (h .before) .0, sym (h .hydrogen-is-unbalanced .ensures) ∙ c .before .if3 .taken) (c .refused-temperature3 .ensures)
+    rw (known (h .before .before .before) .0, few (h .before) .0, sym (h .hydrogen-is-unbalanced .ensures) ∙ c .before .if3 .taken) (c .refused-rounded-temperature3 .ensures)
 
 first-missing-requires : tie.Need-first-missing-requires
 first-missing-requires c κs = rw (c .column-of .ensures) (column-small _ (known (c .before .before .before .before .before) .1))
@@ -74,14 +74,14 @@ unfolding byBonds
 returns-4 c =
     let m = c .before .before in
     let e = m .before .before in
-    rw (known (e .before .before .before .before) .0, few (e .before .before) .0, balanced e, found-at (noCoefficientAt _ _) _ (missing m) (omega arith)) (c .refused-temperature4 .ensures)
+    rw (known (e .before .before .before .before) .0, few (e .before .before) .0, balanced e, found-at (noCoefficientAt _ _) _ (missing m) (omega arith)) (c .refused-rounded-temperature4 .ensures)
 
 returns-5 : tie.Need-returns-5
 unfolding byBonds
 returns-5 c =
     let d = c .before .before .before in
     let e = d .before .before .before in
-    rw (known (e .before .before .before .before) .0, few (e .before .before) .0, balanced e, filled d, boiling (c .before .before) ∙ c .before .if5 .taken) (c .refused-temperature5 .ensures)
+    rw (known (e .before .before .before .before) .0, few (e .before .before) .0, balanced e, filled d, boiling (c .before .before) ∙ c .before .if5 .taken) (c .refused-rounded-temperature5 .ensures)
 
 line-sum-requires : tie.Need-line-sum-requires
 line-sum-requires c κs =

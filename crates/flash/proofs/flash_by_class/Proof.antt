@@ -32,11 +32,11 @@ sum-is c =
 
 returns : tie.Need-returns
 unfolding byClass
-returns c = rw (sym (c .before .before .is-outside .ensures) ∙ c .before .if1 .taken) (c .refused-temperature .ensures)
+returns c = rw (sym (c .before .before .is-outside .ensures) ∙ c .before .if1 .taken) (c .refused-rounded-temperature .ensures)
 
 returns-2 : tie.Need-returns-2
 unfolding byClass
-returns-2 c = rw (known (c .before .before .before), boiling (c .before .before) ∙ c .before .if2 .taken) (c .refused-temperature2 .ensures)
+returns-2 c = rw (known (c .before .before .before), boiling (c .before .before) ∙ c .before .if2 .taken) (c .refused-rounded-temperature2 .ensures)
 
 class-line-requires : tie.Need-class-line-requires
 class-line-requires c κs = let h = inside 1 10 _ (known (c .before .before)) in record { from = h .0; to = h .1 }

@@ -5,6 +5,7 @@ use Prim.Native.Nat.{ℕ, _≤_}
 use native.Mathlib.Omega.{arith}
 use lib.IntN.{natAbs}
 use mir.Facts.{toZ-ofZ}
+use Rattle.answer.specs.declared.Rounded.{Rounded}
 use Rattle.answer.specs.Outcome.{refused, answered}
 use Rattle.elements.specs.Internal.{AtMost200}
 use Rattle.blend.specs.Blend.{shownLimits}
@@ -57,10 +58,11 @@ rate-of-requires-2 c κs =
 returns-2 : tie.Need-returns-2
 unfolding massConcentration
 returns-2 c =
-    let z = c .before .before in
+    let u = c .before in
+    let z = u .before .before in
     rw (pair (z .before .before))
-    (ap₂ (λ (x y : ℕ). record { refusal = record { number = 0; place = 0 }; lower = x; upper = y })
-    (c .before .rate-of .ensures ∙ rates z _) (c .rate-of2 .ensures ∙ rates z _))
+    (c .limits-of .ensures
+    ∙ ap₂ (λ (x y : Rounded). shownLimits (answered (record { lower = x; upper = y }))) (u .before .rate-of .ensures ∙ rates z _) (u .rate-of2 .ensures ∙ rates z _))
 
 pub mass-concentration-spec : {M : Type 1} → statement M
 mass-concentration-spec =
@@ -72,4 +74,5 @@ mass-concentration-spec =
     (λ c κs. tt)
     rate-of-requires
     rate-of-requires-2
+    (λ c κs. tt)
     returns-2)

@@ -1,15 +1,15 @@
 -- `stoichiometric_fraction` meets its contract: a refusal of β stays, and its answer gives the quotient that is rounded.
 use mathlib.Core.Path.{_≡_, sym, ap, _∙_}
-use Prim.Native.Nat.{ℕ}
 use native.Mathlib.Omega.{arith}
 use borrow.Author.Needs.{needs}
-use Rattle.answer.specs.Outcome.{refused, answered, shownFigure}
+use Rattle.answer.specs.declared.Rounded.{Rounded}
+use Rattle.answer.specs.Outcome.{refused, answered, shownRounded}
 use Rattle.answer.proofs.Outcomes.{figure-refused, figure-answered}
 use Rattle.oxygen.specs.declared.Purpose.the-variants.{OxygenCoefficient}
 use Rattle.oxygen.specs.Admission.{oxygenCoefficient}
 use Rattle.oxygen.specs.Stoichiometric.{stoichiometricFraction}
 use Rattle.oxygen.proofs.Admissions.{admission-numbered}
-use Rattle.oxygen.proofs.Stoichiometry.{stoichiometric-figure}
+use Rattle.oxygen.proofs.Stoichiometry.{stoichiometric-rounded}
 use Rattle.oxygen.proofs.stoichiometric_fraction.Statement.{statement}
 use Rattle.oxygen.proofs.stoichiometric_fraction.Tie as tie
 
@@ -21,18 +21,19 @@ beta c = figure-answered _ _ (c .before .before .before .oxygen-coefficient .ens
 
 returns : tie.Need-returns
 unfolding stoichiometricFraction
-returns c = rw (declined c) (c .before .before .before .oxygen-coefficient .ensures .0 ∙ ap shownFigure (declined c))
+returns c = rw (declined (c .before)) (c .refused-rounded .ensures)
 
 returns-2 : tie.Need-returns-2
 unfolding stoichiometricFraction
 returns-2 c =
     rw (beta (c .before .before .before))
-    (c .answered-figure .ensures ∙ ap (λ (n : ℕ). shownFigure (answered n)) (c .before .round-div .ensures .0 ∙ sym (stoichiometric-figure _)))
+    (c .answered-rounded .ensures ∙ ap (λ (r : Rounded). shownRounded (answered r)) (c .before .round-div .ensures .0 ∙ sym (stoichiometric-rounded _)))
 
 pub stoichiometric-fraction-spec : {M : Type 1} → statement M
 stoichiometric-fraction-spec =
     tie.close
     (tie.spec
+    (λ c κs. tt)
     (λ c κs. tt)
     returns
     (λ c. search needs)

@@ -1,15 +1,17 @@
--- With n = q d + r and r below d, the nearest number to n / d is q + 1 where d − r ≤ r, and q where not.
+-- With n = q d + r and r below d, n / d is q exactly where r is 0, the nearest number to it is q + 1 where d − r ≤ r, and q where not.
 use mathlib.Core.Path.{_≡_}
 use Prim.Native.Nat.{ℕ, _+_, _*_, _<_}
+use native.Mathlib.Nat.{le-mul-of-pos-right}
 use native.Mathlib.Omega.{arith}
+use Rattle.answer.specs.declared.Rounded.{Rounded}
 use Rattle.rounding.specs.Round.{roundDiv}
-use Rattle.rounding.specs.Rounds.{Rounds}
+use Rattle.rounding.specs.Rounds.{Rounds, is-exact, is-raised, is-lowered}
 use Rattle.rounding.proofs.Division.{divided-parts}
-use Rattle.rounding.proofs.Rounding.{nearest-is, round-by-zero, round-le, rounds}
+use Rattle.rounding.proofs.Rounding.{round-only, div-by-zero, rounds}
 use Rattle.rounding.proofs.round_div.Statement.{statement}
 use Rattle.rounding.proofs.round_div.Tie as tie
 
-answer : (n d r : ℕ) → r ≡ roundDiv n d → (r ≡ roundDiv n d) × Rounds n d r
+answer : (n d : ℕ) (r : Rounded) → r ≡ roundDiv n d → (r ≡ roundDiv n d) × Rounds n d r
 answer n d r e = (e, rounds n d r e)
 
 module _ (c : tie.After-divide) where
@@ -19,36 +21,41 @@ module _ (c : tie.After-divide) where
   abbrev d : ℕ
   d = c .before .before .args .d
 
-  abbrev q : ℕ
-  q = c .divide .result .quotient
+  d-positive : 0 < d
+  d-positive = omega arith
 
-  parts : (q * d + c .divide .result .remainder ≡ n) × (c .divide .result .remainder < d)
-  parts = divided-parts n d (c .divide .result) (c .divide .ensures) (omega arith)
-
-up : (c : tie.Then2) → q (c .before) + 1 ≡ roundDiv (n (c .before)) (d (c .before))
-up c = let p = parts (c .before) in nearest-is _ _ _ (record { low = omega arith; high = omega arith })
-
-down : (c : tie.Else2) → q (c .before) ≡ roundDiv (n (c .before)) (d (c .before))
-down c = let p = parts (c .before) in nearest-is _ _ _ (record { low = omega arith; high = omega arith })
+  parts : (c .divide .result .quotient * d + c .divide .result .remainder ≡ n) × (c .divide .result .remainder < d)
+  parts = divided-parts n d (c .divide .result) (c .divide .ensures) d-positive
 
 returns : tie.Need-returns
-returns c = answer _ _ _ (rw (c .if1 .taken) (omega (arith, round-by-zero (c .before .args .n))))
+returns c = answer _ _ _ (rw (c .if1 .taken) (div-by-zero _))
 
 divide-requires : tie.Need-divide-requires
 divide-requires c κs = tt
 
-sub-if2 : tie.Need-sub-if2
-sub-if2 c = omega (arith, parts c)
-
-add-result : tie.Need-add-result
-add-result c = omega (arith, up c, round-le (n (c .before)) (d (c .before)))
-
 returns-2 : tie.Need-returns-2
-returns-2 c = answer _ _ _ (omega (arith, up c))
+returns-2 c =
+    let p = parts (c .before) in
+    answer _ _ _ (round-only (n (c .before)) (d (c .before)) _ _ (omega arith) (record { low = omega arith; high = omega arith }) (is-exact (omega arith)))
+
+sub-if3 : tie.Need-sub-if3
+sub-if3 c = omega (arith, parts (c .before))
+
+add-t8 : tie.Need-add-t8
+add-t8 c =
+    let e = c .before .before in
+    omega (arith, parts e, le-mul-of-pos-right (e .divide .result .quotient) (d-positive e), e .before .before .fits .n)
 
 returns-3 : tie.Need-returns-3
-returns-3 c = answer _ _ _ (omega (arith, down c))
+returns-3 c =
+    let p = parts (c .before .before) in
+    let e = d (c .before .before) in
+    answer _ _ _ (round-only (n (c .before .before)) e _ _ (omega arith) (record { low = omega arith; high = omega arith }) (is-raised (omega arith)))
+
+returns-4 : tie.Need-returns-4
+returns-4 c =
+    let p = parts (c .before .before) in
+    answer _ _ _ (round-only (n (c .before .before)) (d (c .before .before)) _ _ (omega arith) (record { low = omega arith; high = omega arith }) (is-lowered (omega arith)))
 
 pub round-div-spec : {M : Type 1} → statement M
-round-div-spec =
-    tie.close (tie.spec returns divide-requires sub-if2 add-result returns-2 returns-3)
+round-div-spec = tie.close (tie.spec returns divide-requires returns-2 sub-if3 add-t8 returns-3 returns-4)

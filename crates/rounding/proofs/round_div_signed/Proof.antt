@@ -9,14 +9,15 @@ use mir.Syntax.{w64}
 use mir.Val.{toZ, ofZ}
 use mir.Facts.{toZ-ofZ, toZ-pos}
 use borrow.Author.Needs.{needs}
+use Rattle.answer.specs.declared.RoundedSigned.{RoundedSigned}
 use Rattle.rounding.specs.Round.{roundDiv, roundDivℤ}
 use Rattle.rounding.specs.Rounds.{Roundsℤ}
 use Rattle.rounding.proofs.Signed.{size-pos}
-use Rattle.rounding.proofs.Rounding.{round-le, round-neg, round-pos, roundsℤ}
+use Rattle.rounding.proofs.Rounding.{div-le, div-neg, div-pos, roundsℤ}
 use Rattle.rounding.proofs.round_div_signed.Statement.{statement}
 use Rattle.rounding.proofs.round_div_signed.Tie as tie
 
-answer : (z : ℤ) (d : ℕ) (r : ℤ) → r ≡ roundDivℤ z d → (r ≡ roundDivℤ z d) × Roundsℤ z d r
+answer : (z : ℤ) (d : ℕ) (r : RoundedSigned) → r ≡ roundDivℤ z d → (r ≡ roundDivℤ z d) × Roundsℤ z d r
 answer z d r e = (e, roundsℤ z d r e)
 
 module _ (c : tie.After-round-div) where
@@ -30,10 +31,10 @@ module _ (c : tie.After-round-div) where
   stored = toZ-ofZ (c .before .before .fits .n)
 
   quotient-is : c .round-div .result ≡ roundDiv (natAbs n) d
-  quotient-is = omega (arith, ap (λ (m : ℕ). roundDiv m d) (c .before .size .ensures ∙ ap natAbs stored))
+  quotient-is = c .round-div .ensures .0 ∙ ap (λ (m : ℕ). roundDiv m d) (c .before .size .ensures ∙ ap natAbs stored)
 
-  quotient-le : c .round-div .result ≤ natAbs n
-  quotient-le = omega (arith, quotient-is, round-le (natAbs n) d)
+  quotient-le : c .round-div .result .value ≤ natAbs n
+  quotient-le = div-le (natAbs n) d _ quotient-is
 
 negative : (c : tie.Then1) → ltZ (n (c .before)) (pos 0) ≡ true
 negative c = rw (stored (c .before)) at (c .if1 .taken)
@@ -53,23 +54,18 @@ negated-requires c κs =
 
 returns : tie.Need-returns
 returns c =
-    answer _ _ _
-    (toZ-ofZ {z = c .negated .result} (search needs)
-    ∙ c .negated .ensures
-    ∙ ap (λ (q : ℕ). negℤ (pos q)) (quotient-is (c .before .before))
-    ∙ round-neg _ _ (negative (c .before)))
+    let q = c .before .before in
+    answer _ _ _ (div-neg _ _ _ (quotient-is q) _ (negative (c .before)) (toZ-ofZ {z = c .negated .result} (search needs) ∙ c .negated .ensures))
 
-cast-result : tie.Need-cast-result
-cast-result c =
-    let p = size-pos (n (c .before)) (not-negative c) in
-    record { sfits = omega (arith, quotient-le (c .before), ap mag p) }
+cast-t7 : tie.Need-cast-t7
+cast-t7 c =
+    let p = size-pos (n (c .before .before)) (not-negative (c .before)) in
+    record { sfits = omega (arith, quotient-le (c .before .before), ap mag p) }
 
 returns-2 : tie.Need-returns-2
-returns-2 c =
-    answer _ _ _
-    (toZ-pos w64 (cast-result c .sfits) ∙ ap pos (quotient-is (c .before)) ∙ round-pos _ _ (not-negative c))
+returns-2 c = answer _ _ _ (div-pos _ _ _ (quotient-is (c .before .before)) _ (not-negative (c .before)) (toZ-pos w64 (cast-t7 c .sfits)))
 
 pub round-div-signed-spec : {M : Type 1} → statement M
 round-div-signed-spec =
     tie.close
-    (tie.spec size-requires round-div-requires negated-requires returns cast-result returns-2)
+    (tie.spec size-requires round-div-requires negated-requires returns cast-t7 returns-2)

@@ -1,11 +1,11 @@
--- The worked examples, by computing each answer on the definitions: their number, then a `refl` for each of the first ten and of those behind.
+-- The worked examples, by computing each answer on the definitions: their number, then a `refl` for each, ten at a time.
 use mathlib.Core.Path.{refl}
 use mathlib.Core.Option.{Option·elim}
 use lib.ListN.{drop}
 use Rattle.answer.specs.Lowest.{lowest}
 use Rattle.answer.specs.Outside.{outside}
-use Rattle.rounding.specs.Round.{roundDiv, roundDivℤ}
-use Rattle.rounding.specs.Fraction.{_over_, whole, _⊞_, _⊠_, _⊘_, figure, atMost}
+use Rattle.rounding.specs.Round.{roundedValue, markOf, roundDiv, roundedValueℤ, roundDivℤ}
+use Rattle.rounding.specs.Fraction.{_over_, whole, _⊞_, _⊠_, _⊘_, rounded, atMost}
 use Rattle.text.specs.Decimal.{decimal, digitFrom}
 use Rattle.csv.specs.Lines.{crlf, comma, lines, fields, before, all, plain}
 use Rattle.csv.specs.Sheet.{headed, records, formed, goodRecord}
@@ -18,12 +18,12 @@ use Rattle.oxygen.specs.Stoichiometric.{stoichiometric, stoichiometricFraction}
 use Rattle.blend.specs.Limit.{slope, constant, divisor, limitOf}
 use Rattle.blend.specs.Temperature.{correction}
 use Rattle.blend.specs.Fuel.{molarMass, admitting}
-use Rattle.blend.specs.Blend.{held, weight, sumWithin, within, taking, adding, blendLimit, telling, asking}
+use Rattle.blend.specs.Blend.{held, weight, sumWithin, within, taking, adding, blendLimit, telling, askingAs}
 use Rattle.limits.specs.FuelLimits.{fuelFigure, fuelLimits}
 use Rattle.limits.specs.Concentration.{molarVolume, concentration, massConcentration}
 use Rattle.bonds.specs.Kinds.{aboveAt, hydrogenUnbalanced}
-use Rattle.flash.specs.Tables.{coefficients, methods}
-use Rattle.flash.specs.Points.{missing, noCoefficientAt, lineTerms, bondTerm, terms, sumFrom, byBonds}
+use Rattle.flash.specs.Tables.{coefficients, methods, classes}
+use Rattle.flash.specs.Points.{missing, noCoefficientAt, lineTerms, bondTerm, terms, classTerms, sumFrom, byBonds, byClass}
 use Rattle.curve.specs.Smallest.{smallest, searched}
 use Rattle.curve.specs.Curve.{sizes, outOfRange, rising, badPoint, firstBadPoint, accepting, between, segmentOf, pressureAt, onCurve}
 use Rattle.ignition.specs.Questions.{partOfPressure, reaches, withLimit, lowerTemperatureLimit, threshold, product, ignites, withOxygen, flashByCurve}
@@ -36,15 +36,16 @@ use Rattle.worked.proofs.worked_examples.Tie as tie
 returns : tie.Need-returns
 unfolding reading readItems readItem symbolOf multipleOf digitFrom firstAbove lowest outside
     beta admission notAdmitted stoichiometricFraction stoichiometric slope constant divisor limitOf correction fuelFigure fuelLimits
-    molarMass molarVolume concentration massConcentration roundDiv roundDivℤ _over_ whole _⊞_ _⊠_ _⊘_ figure atMost
-    aboveAt hydrogenUnbalanced Option·elim coefficients methods missing noCoefficientAt lineTerms bondTerm terms sumFrom byBonds
+    molarMass molarVolume concentration massConcentration roundedValue markOf roundDiv roundedValueℤ roundDivℤ _over_ whole _⊞_ _⊠_ _⊘_ rounded atMost
+    aboveAt hydrogenUnbalanced Option·elim coefficients methods classes missing noCoefficientAt lineTerms bondTerm terms classTerms sumFrom byBonds byClass
     smallest searched sizes outOfRange rising badPoint firstBadPoint accepting between segmentOf pressureAt onCurve
     partOfPressure reaches withLimit lowerTemperatureLimit threshold product ignites withOxygen flashByCurve
-    admitting held weight sumWithin within taking adding blendLimit telling asking
+    admitting held weight sumWithin within taking adding blendLimit telling askingAs
     crlf comma lines fields before all plain headed records formed goodRecord isParts spelledFrom addingAll sheetAnswer
     decimal percent limitsLine answerLine answerText
 returns c =
-    let later : AsPrinted (drop 10 examples) = (refl, (refl, (refl, (refl, (refl, (refl, (refl, (refl, (refl, (refl, (refl, tt))))))))))) in
+    let last : AsPrinted (drop 20 examples) = (refl, (refl, (refl, (refl, (refl, tt))))) in
+    let later : AsPrinted (drop 10 examples) = (refl, (refl, (refl, (refl, (refl, (refl, (refl, (refl, (refl, (refl, last)))))))))) in
     (refl, (refl, (refl, (refl, (refl, (refl, (refl, (refl, (refl, (refl, (refl, later)))))))))))
 
 pub worked-examples-spec : {M : Type 1} → statement M
