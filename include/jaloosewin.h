@@ -44,6 +44,14 @@ enum {
     JLW_BLEND_OUT_OF_BOUNDS = 28      /* numbers outside the bounds below */
 };
 
+/* The marks: what rounding did to a figure. A figure is rounded once, a half up, and its mark compares it with the exact value that was rounded.
+   With a refusal a mark is 0, which then says nothing. */
+enum {
+    JLW_EXACT = 0,  /* the figure is the exact value */
+    JLW_RAISED = 1, /* the figure is above the exact value */
+    JLW_LOWERED = 2 /* the figure is below the exact value */
+};
+
 /* No text of jlw_write_formula is longer: out_len of this is always enough. */
 enum { JLW_LONGEST_FORMULA = 43 };
 
@@ -55,7 +63,8 @@ typedef struct { uint64_t count[10]; } jlw_atoms; /* C H O N S P F Cl Br Si */
 typedef struct { jlw_refusal refusal; jlw_atoms atoms; } jlw_formula;
 typedef struct { jlw_refusal refusal; uint64_t length; } jlw_written;
 typedef struct { jlw_refusal refusal; uint64_t value; } jlw_figure;
-typedef struct { jlw_refusal refusal; uint64_t lower, upper; } jlw_limits;
+typedef struct { jlw_refusal refusal; uint64_t value, mark; } jlw_rounded;
+typedef struct { jlw_refusal refusal; uint64_t lower, upper, lower_mark, upper_mark; } jlw_limits;
 /* Total parts, and the sums of parts times (a*beta + b): lower in thousandths, upper in two-thousandths. */
 typedef struct { uint64_t total, lower, upper; } jlw_blend;
 typedef struct { jlw_refusal refusal; jlw_blend blend; } jlw_blended;
@@ -65,7 +74,9 @@ JLW_STATIC_ASSERT(sizeof(jlw_atoms) == 80, "jlw_atoms");
 JLW_STATIC_ASSERT(sizeof(jlw_formula) == 96 && offsetof(jlw_formula, atoms) == 16, "jlw_formula");
 JLW_STATIC_ASSERT(sizeof(jlw_written) == 24 && offsetof(jlw_written, length) == 16, "jlw_written");
 JLW_STATIC_ASSERT(sizeof(jlw_figure) == 24 && offsetof(jlw_figure, value) == 16, "jlw_figure");
-JLW_STATIC_ASSERT(sizeof(jlw_limits) == 32 && offsetof(jlw_limits, lower) == 16 && offsetof(jlw_limits, upper) == 24, "jlw_limits");
+JLW_STATIC_ASSERT(sizeof(jlw_rounded) == 32 && offsetof(jlw_rounded, value) == 16 && offsetof(jlw_rounded, mark) == 24, "jlw_rounded");
+JLW_STATIC_ASSERT(sizeof(jlw_limits) == 48 && offsetof(jlw_limits, lower) == 16 && offsetof(jlw_limits, upper) == 24, "jlw_limits");
+JLW_STATIC_ASSERT(offsetof(jlw_limits, lower_mark) == 32 && offsetof(jlw_limits, upper_mark) == 40, "jlw_limits, marks");
 JLW_STATIC_ASSERT(sizeof(jlw_blend) == 24 && offsetof(jlw_blend, lower) == 8 && offsetof(jlw_blend, upper) == 16, "jlw_blend");
 JLW_STATIC_ASSERT(sizeof(jlw_blended) == 40 && offsetof(jlw_blended, blend) == 16, "jlw_blended");
 
@@ -83,20 +94,21 @@ jlw_written jlw_write_formula(uint64_t c, uint64_t h, uint64_t o, uint64_t n, ui
 /* A fuel is its formula text. Its refusals, in this order, wherever one is given: 1 and 2 of the reader; 3, an element that is not admitted, or
    carbon missing: place the lowest element at fault; 4, beta below 1/2. Temperatures are hundredths of a degree Celsius. */
 
-/* The oxygen coefficient beta in quarters: CH4 8. Admitted: carbon present, no Si. */
+/* The oxygen coefficient beta in quarters, which is never rounded: CH4 8. Admitted: carbon present, no Si. */
 jlw_figure jlw_oxygen_coefficient(const uint8_t *text, size_t text_len);
 
-/* The stoichiometric fraction in 0.01 %: CH4 936; refusals as for beta. */
-jlw_figure jlw_stoichiometric_fraction(const uint8_t *text, size_t text_len);
+/* The stoichiometric fraction in 0.01 %: CH4 936, lowered from 936.33; refusals as for beta. */
+jlw_rounded jlw_stoichiometric_fraction(const uint8_t *text, size_t text_len);
 
-/* Both flammability limits of a fuel in 0.01 volume percent, each at most 10000. No temperature is named, 20.00 is meant:
-   CH4 455 and 2715. Admitted: carbon present, only C, H, O, N and at most one Cl. */
+/* Both flammability limits of a fuel in 0.01 volume percent, each at most 10000 and with a mark of its own. No temperature is named, 20.00 is meant:
+   CH4 455 and 2715, both lowered. Admitted: carbon present, only C, H, O, N and at most one Cl. */
 jlw_limits jlw_fuel_limits(const uint8_t *text, size_t text_len);
 
-/* The same at a temperature: CH4 at JLW_FIT_TEMPERATURE 454 and 2732. Refusal 10 outside 0.00 to 200.00, after the fuel's. */
+/* The same at a temperature: CH4 at JLW_FIT_TEMPERATURE 454, raised, and 2732, lowered. Refusal 10 outside 0.00 to 200.00, after the fuel's. */
 jlw_limits jlw_fuel_limits_at(const uint8_t *text, size_t text_len, int64_t temperature);
 
-/* The mass concentrations of a fuel at both limits in 0.01 g/m3, for CH4 at 134.00 1983 and 14841; refusals as for limits at a temperature. */
+/* The mass concentrations of a fuel at both limits in 0.01 g/m3, for CH4 at 134.00 1983 and 14841; refusals as for limits at a temperature.
+   They are worked from the limits as answered, and the marks speak of this last rounding only, as if those limits were exact. */
 jlw_limits jlw_mass_concentration(const uint8_t *text, size_t text_len, int64_t temperature);
 
 /* Blends. A blend goes in as its three numbers and comes back as a struct; with a refusal it comes back as it was given (of a joining, the first).
@@ -118,8 +130,8 @@ jlw_blended jlw_add_fuel(uint64_t total, uint64_t lower, uint64_t upper, const u
 /* Joins a second blend into a first. Refusals: 28, 8. */
 jlw_blended jlw_join_blends(uint64_t total, uint64_t lower, uint64_t upper, uint64_t other_total, uint64_t other_lower, uint64_t other_upper);
 
-/* Both limits of a blend by Le Chatelier's rule over all that it took in, in 0.01 volume percent, each at most 10000. No temperature is named, 20.00 is meant.
-   Refusals: 28, 9 where the total is 0. */
+/* Both limits of a blend by Le Chatelier's rule over all that it took in, in 0.01 volume percent, each at most 10000 and with a mark of its own.
+   No temperature is named, 20.00 is meant. Refusals: 28, 9 where the total is 0. */
 jlw_limits jlw_blend_limits(uint64_t total, uint64_t lower, uint64_t upper);
 
 /* The same at a temperature; at JLW_FIT_TEMPERATURE no correction is applied. Refusals: 28, 9, 10 outside 0.00 to 200.00. */

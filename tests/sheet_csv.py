@@ -19,7 +19,7 @@ class Refusal(ctypes.Structure):
 
 
 class Limits(ctypes.Structure):
-    _fields_ = [("refusal", Refusal), ("lower", ctypes.c_uint64), ("upper", ctypes.c_uint64)]
+    _fields_ = [("refusal", Refusal), *((name, ctypes.c_uint64) for name in ("lower", "upper", "lower_mark", "upper_mark"))]
 
 
 class Written(ctypes.Structure):

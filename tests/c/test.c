@@ -1,4 +1,4 @@
-/* Calls every function of include/jaloosewin.h and tests/testing.h: the figures of document 01, refusals, lent buffers. */
+/* Calls every function of include/jaloosewin.h and tests/testing.h: the figures of document 01 with their marks, refusals, lent buffers. */
 #define _DEFAULT_SOURCE
 #include "../testing.h"
 
@@ -78,19 +78,29 @@ static bool figure_refused(jlw_figure figure, uint64_t number, uint64_t place)
     return is(figure.refusal, number, place) && figure.value == 0;
 }
 
-static bool limits_are(jlw_limits limits, uint64_t lower, uint64_t upper)
+static bool rounded_is(jlw_rounded rounded, uint64_t value, uint64_t mark)
 {
-    return answered(limits.refusal) && limits.lower == lower && limits.upper == upper;
+    return answered(rounded.refusal) && rounded.value == value && rounded.mark == mark;
+}
+
+static bool rounded_refused(jlw_rounded rounded, uint64_t number, uint64_t place)
+{
+    return is(rounded.refusal, number, place) && rounded.value == 0 && rounded.mark == 0;
+}
+
+static bool limits_are(jlw_limits limits, uint64_t lower, uint64_t upper, uint64_t lower_mark, uint64_t upper_mark)
+{
+    return answered(limits.refusal) && limits.lower == lower && limits.upper == upper && limits.lower_mark == lower_mark && limits.upper_mark == upper_mark;
 }
 
 static bool same_limits(jlw_limits a, jlw_limits b)
 {
-    return answered(a.refusal) && limits_are(b, a.lower, a.upper);
+    return answered(a.refusal) && limits_are(b, a.lower, a.upper, a.lower_mark, a.upper_mark);
 }
 
 static bool limits_refused(jlw_limits limits, uint64_t number, uint64_t place)
 {
-    return is(limits.refusal, number, place) && limits.lower == 0 && limits.upper == 0;
+    return is(limits.refusal, number, place) && limits.lower == 0 && limits.upper == 0 && limits.lower_mark == 0 && limits.upper_mark == 0;
 }
 
 static bool same_blend(jlw_blend a, jlw_blend b)
@@ -111,6 +121,16 @@ static bool temperature_is(jlt_temperature temperature, int64_t value)
 static bool temperature_refused(jlt_temperature temperature, uint64_t number, uint64_t place)
 {
     return is(temperature.refusal, number, place) && temperature.value == 0;
+}
+
+static bool flash_is(jlt_rounded_temperature flash, int64_t value, uint64_t mark)
+{
+    return answered(flash.refusal) && flash.value == value && flash.mark == mark;
+}
+
+static bool flash_refused(jlt_rounded_temperature flash, uint64_t number, uint64_t place)
+{
+    return is(flash.refusal, number, place) && flash.value == 0 && flash.mark == 0;
 }
 
 static void test_read(void)
@@ -204,34 +224,55 @@ static void test_oxygen(void)
     CHECK(figure_refused(jlw_oxygen_coefficient(TEXT("CH3SiH3")), 3, 10));
     CHECK(figure_refused(jlw_oxygen_coefficient(TEXT("SiH4")), 3, 1));
     CHECK(figure_refused(jlw_oxygen_coefficient(TEXT("CO2")), 4, 0));
-    CHECK(figure_is(jlw_stoichiometric_fraction(TEXT("CH4")), 936));
-    CHECK(figure_refused(jlw_stoichiometric_fraction(TEXT("CF4")), 4, 0));
-    CHECK(figure_refused(jlw_stoichiometric_fraction(NO_TEXT), 1, 0));
+}
+
+static void test_fraction(void)
+{
+    CHECK(rounded_is(jlw_stoichiometric_fraction(TEXT("CH4")), 936, JLW_LOWERED));
+    CHECK(rounded_is(jlw_stoichiometric_fraction(TEXT("C3H8")), 397, JLW_RAISED));
+    CHECK(rounded_is(jlw_stoichiometric_fraction(TEXT("C5H5N")), 320, JLW_EXACT));
+    CHECK(rounded_refused(jlw_stoichiometric_fraction(TEXT("CF4")), 4, 0));
+    CHECK(rounded_refused(jlw_stoichiometric_fraction(NO_TEXT), 1, 0));
 }
 
 static void test_limits(void)
 {
-    CHECK(limits_are(jlw_fuel_limits_at(TEXT("CH4"), JLW_FIT_TEMPERATURE), 454, 2732));
-    CHECK(limits_are(jlw_fuel_limits(TEXT("CH4")), 455, 2715));
+    CHECK(limits_are(jlw_fuel_limits_at(TEXT("CH4"), JLW_FIT_TEMPERATURE), 454, 2732, JLW_RAISED, JLW_LOWERED));
+    CHECK(limits_are(jlw_fuel_limits(TEXT("CH4")), 455, 2715, JLW_LOWERED, JLW_LOWERED));
     CHECK(same_limits(jlw_fuel_limits(TEXT("CH4")), jlw_fuel_limits_at(TEXT("CH4"), JLW_USUAL_TEMPERATURE)));
-    CHECK(limits_are(jlw_fuel_limits_at(TEXT("C6H6"), JLW_FIT_TEMPERATURE), 143, 821));
-    CHECK(limits_are(jlw_fuel_limits(TEXT("C6H6")), 144, 816));
-    CHECK(limits_are(jlw_fuel_limits_at(TEXT("C7H8"), JLW_FIT_TEMPERATURE), 121, 743));
+    CHECK(limits_are(jlw_fuel_limits_at(TEXT("C6H6"), JLW_FIT_TEMPERATURE), 143, 821, JLW_LOWERED, JLW_RAISED));
+    CHECK(limits_are(jlw_fuel_limits(TEXT("C6H6")), 144, 816, JLW_RAISED, JLW_RAISED));
+    CHECK(limits_are(jlw_fuel_limits_at(TEXT("C7H8"), JLW_FIT_TEMPERATURE), 121, 743, JLW_RAISED, JLW_RAISED));
     CHECK(limits_refused(jlw_fuel_limits(TEXT("CO2")), 4, 0));
     CHECK(limits_refused(jlw_fuel_limits(TEXT("CHCl3")), 3, 8));
     CHECK(limits_refused(jlw_fuel_limits(TEXT("CS2Cl2")), 3, 5));
     CHECK(limits_refused(jlw_fuel_limits(NO_TEXT), 1, 0));
-    CHECK(limits_are(jlw_fuel_limits_at(TEXT("CH4"), 13400), 414, 3099));
-    CHECK(limits_are(jlw_fuel_limits_at(TEXT("CH3Cl"), 18530), 492, 4150));
+    CHECK(limits_are(jlw_fuel_limits_at(TEXT("CH4"), 13400), 414, 3099, JLW_LOWERED, JLW_LOWERED));
+    CHECK(limits_are(jlw_fuel_limits_at(TEXT("CH3Cl"), 18530), 492, 4150, JLW_LOWERED, JLW_LOWERED));
     CHECK(answered(jlw_fuel_limits_at(TEXT("CH4"), 0).refusal) && answered(jlw_fuel_limits_at(TEXT("CH4"), 20000).refusal));
     CHECK(limits_refused(jlw_fuel_limits_at(TEXT("CH4"), -1), 10, 0));
     CHECK(limits_refused(jlw_fuel_limits_at(TEXT("CH4"), 20001), 10, 0));
     CHECK(limits_refused(jlw_fuel_limits_at(TEXT("CO2"), INT64_MIN), 4, 0));
     CHECK(limits_refused(jlw_fuel_limits_at(NO_TEXT, INT64_MAX), 1, 0));
-    CHECK(limits_are(jlw_mass_concentration(TEXT("CH4"), 13400), 1983, 14841));
-    CHECK(limits_are(jlw_mass_concentration(TEXT("CH3Cl"), 2000), 11903, 72322));
+}
+
+/* An upper limit of exactly 50.00, a lower one of exactly 0.30, and one of 3.125. */
+static void test_exact_limits(void)
+{
+    CHECK(limits_are(jlw_fuel_limits_at(TEXT("CH2O"), 6966), 722, 5000, JLW_RAISED, JLW_EXACT));
+    CHECK(limits_are(jlw_fuel_limits_at(TEXT("C25H51N"), 2813), 30, 282, JLW_EXACT, JLW_LOWERED));
+    CHECK(limits_are(jlw_fuel_limits_at(TEXT("C2H3N"), 15959), 313, 2417, JLW_RAISED, JLW_LOWERED));
+}
+
+/* The limits of the last fuel are rounded, 9 is lowered and 93 raised, but its mass concentrations at them are exact. */
+static void test_mass(void)
+{
+    CHECK(limits_are(jlw_mass_concentration(TEXT("CH4"), 13400), 1983, 14841, JLW_RAISED, JLW_LOWERED));
+    CHECK(limits_are(jlw_mass_concentration(TEXT("CH3Cl"), 2000), 11903, 72322, JLW_LOWERED, JLW_LOWERED));
     CHECK(limits_refused(jlw_mass_concentration(TEXT("CH4"), INT64_MIN), 10, 0));
     CHECK(limits_refused(jlw_mass_concentration(TEXT("C201"), 0), 2, 1));
+    CHECK(limits_are(jlw_fuel_limits_at(TEXT("C200H12O150N54Cl"), 0), 9, 93, JLW_LOWERED, JLW_RAISED));
+    CHECK(limits_are(jlw_mass_concentration(TEXT("C200H12O150N54Cl"), 0), 22500, 232500, JLW_EXACT, JLW_EXACT));
 }
 
 static jlw_blended add(jlw_blend blend, const char *text, uint64_t parts)
@@ -242,6 +283,16 @@ static jlw_blended add(jlw_blend blend, const char *text, uint64_t parts)
 static jlw_blended join(jlw_blend a, jlw_blend b)
 {
     return jlw_join_blends(a.total, a.lower, a.upper, b.total, b.lower, b.upper);
+}
+
+static jlw_limits limits_of(jlw_blend b)
+{
+    return jlw_blend_limits(b.total, b.lower, b.upper);
+}
+
+static jlw_limits limits_of_at(jlw_blend b, int64_t temperature)
+{
+    return jlw_blend_limits_at(b.total, b.lower, b.upper, temperature);
 }
 
 static void test_blends(void)
@@ -257,11 +308,11 @@ static void test_blends(void)
     jlw_blended both = join(propane.blend, ethane.blend);
     CHECK(answered(both.refusal) && both.blend.total == 1000000);
     CHECK(same_blend(both.blend, add(propane.blend, "C2H6", 700000).blend));
-    CHECK(limits_are(jlw_blend_limits(both.blend.total, both.blend.lower, both.blend.upper), 258, 1487));
-    CHECK(same_limits(jlw_blend_limits(both.blend.total, both.blend.lower, both.blend.upper),
-                      jlw_blend_limits_at(both.blend.total, both.blend.lower, both.blend.upper, JLW_USUAL_TEMPERATURE)));
-    CHECK(limits_are(jlw_blend_limits_at(both.blend.total, both.blend.lower, both.blend.upper, JLW_FIT_TEMPERATURE), 257, 1496));
-    CHECK(limits_refused(jlw_blend_limits_at(both.blend.total, both.blend.lower, both.blend.upper, 20001), 10, 0));
+    CHECK(limits_are(limits_of(both.blend), 258, 1487, JLW_RAISED, JLW_LOWERED));
+    CHECK(same_limits(limits_of(both.blend), limits_of_at(both.blend, JLW_USUAL_TEMPERATURE)));
+    CHECK(limits_are(limits_of_at(both.blend, JLW_FIT_TEMPERATURE), 257, 1496, JLW_RAISED, JLW_LOWERED));
+    CHECK(limits_refused(limits_of_at(both.blend, 20001), 10, 0));
+    CHECK(same_limits(limits_of(both.blend), limits_of(add(add(empty, "C2H6", 7).blend, "C3H8", 3).blend)));
 
     CHECK(blend_refused(add(both.blend, "CH4", 1), 8, 0, both.blend));
     CHECK(same_blend(add(both.blend, "CH4", 0).blend, both.blend));
@@ -275,21 +326,31 @@ static void test_blends(void)
     CHECK(answered(join(propane.blend, propane.blend).refusal));
 }
 
+/* Blends of which one limit is exact. */
+static void test_exact_blends(void)
+{
+    jlw_blend empty = jlw_empty_blend();
+    jlw_blend lower = add(add(empty, "C3H4", 446418).blend, "C3H5N", 233105).blend, upper = add(add(empty, "CH4", 5857).blend, "CH5N", 25608).blend;
+    CHECK(limits_are(limits_of(lower), 250, 1442, JLW_EXACT, JLW_RAISED));
+    CHECK(limits_are(limits_of(upper), 422, 2500, JLW_RAISED, JLW_EXACT));
+    CHECK(same_limits(limits_of(join(upper, upper).blend), limits_of(upper)));
+    CHECK(limits_are(limits_of_at(add(empty, "CH2O", 1000000).blend, 6966), 722, 5000, JLW_RAISED, JLW_EXACT));
+}
+
 static void test_out_of_bounds(void)
 {
     jlw_blend good = {1, 9021, 2670}, most = {1000000, UINT64_C(2175679000000), UINT64_C(397108000000)};
     jlw_blend bad[] = {{1000001, UINT64_C(10000000000), 2670002670}, {1, 9020, 2670}, {1, 2175680, 2670}, {1, 9021, 2669}, {1, 9021, 397109},
                        {0, 1, 0}, {0, 0, 1}, {UINT64_MAX, UINT64_MAX, UINT64_MAX}};
-    CHECK(answered(jlw_blend_limits(good.total, good.lower, good.upper).refusal));
-    CHECK(answered(jlw_blend_limits(most.total, most.lower, most.upper).refusal));
+    CHECK(answered(limits_of(good).refusal) && answered(limits_of(most).refusal));
     for (size_t i = 0; i < sizeof bad / sizeof *bad; i++) {
         jlw_blend b = bad[i];
         CHECK(blend_refused(add(b, "c", UINT64_MAX), 28, 0, b));
         CHECK(blend_refused(join(b, good), 28, 0, b));
         CHECK(blend_refused(join(good, b), 28, 1, good));
         CHECK(blend_refused(join(b, b), 28, 0, b));
-        CHECK(limits_refused(jlw_blend_limits(b.total, b.lower, b.upper), 28, 0));
-        CHECK(limits_refused(jlw_blend_limits_at(b.total, b.lower, b.upper, -1), 28, 0));
+        CHECK(limits_refused(limits_of(b), 28, 0));
+        CHECK(limits_refused(limits_of_at(b, -1), 28, 0));
     }
 }
 
@@ -312,33 +373,36 @@ static void test_bonds(void)
     jlt_bonds bonds = {{0}};
     bonds.count[0] = bonds.count[4] = bonds.count[17] = 1;
     bonds.count[3] = 5;
-    CHECK(temperature_is(jlt_flash_by_bonds(1, ethanol, bonds, 7840), 839));
-    CHECK(temperature_is(jlt_flash_by_bonds(2, ethanol, bonds, 7840), 1336));
-    CHECK(temperature_is(jlt_flash_by_bonds(3, ethanol, bonds, 7840), 1891));
-    CHECK(temperature_refused(jlt_flash_by_bonds(0, ethanol, bonds, 7840), 16, 0));
-    CHECK(temperature_refused(jlt_flash_by_bonds(4, ethanol, bonds, INT64_MAX), 16, 0));
-    CHECK(temperature_refused(jlt_flash_by_bonds(1, methane, bonds, 7840), 5, 0));
-    CHECK(temperature_refused(jlt_flash_by_bonds(1, ethanol, bonds, -20001), 7, 0));
-    CHECK(temperature_refused(jlt_flash_by_bonds(1, ethanol, bonds, 60001), 7, 0));
+    CHECK(flash_is(jlt_flash_by_bonds(1, ethanol, bonds, 7840), 839, JLW_LOWERED));
+    CHECK(flash_is(jlt_flash_by_bonds(2, ethanol, bonds, 7840), 1336, JLW_RAISED));
+    CHECK(flash_is(jlt_flash_by_bonds(3, ethanol, bonds, 7840), 1891, JLW_LOWERED));
+    CHECK(flash_refused(jlt_flash_by_bonds(0, ethanol, bonds, 7840), 16, 0));
+    CHECK(flash_refused(jlt_flash_by_bonds(4, ethanol, bonds, INT64_MAX), 16, 0));
+    CHECK(flash_refused(jlt_flash_by_bonds(1, methane, bonds, 7840), 5, 0));
+    CHECK(flash_refused(jlt_flash_by_bonds(1, ethanol, bonds, -20001), 7, 0));
+    CHECK(flash_refused(jlt_flash_by_bonds(1, ethanol, bonds, 60001), 7, 0));
     bonds.count[21] = 1;
-    CHECK(temperature_refused(jlt_flash_by_bonds(1, ethanol, bonds, 60001), 6, 22));
+    CHECK(flash_refused(jlt_flash_by_bonds(1, ethanol, bonds, 60001), 6, 22));
     bonds.count[7] = 201;
-    CHECK(temperature_refused(jlt_flash_by_bonds(3, ethanol, bonds, 7840), 2, 18));
+    CHECK(flash_refused(jlt_flash_by_bonds(3, ethanol, bonds, 7840), 2, 18));
     jlw_atoms many = {{0, 0, 0, 0, 0, 0, 0, 0, 0, 201}};
-    CHECK(temperature_refused(jlt_flash_by_bonds(3, many, bonds, 7840), 2, 10));
+    CHECK(flash_refused(jlt_flash_by_bonds(3, many, bonds, 7840), 2, 10));
     jlt_bonds ring = {{0, 6, 0, 6}};
-    CHECK(temperature_is(jlt_flash_by_bonds(1, benzene, ring, 8010), -1540));
-    CHECK(temperature_is(jlt_flash_by_bonds(1, benzene, ring, 8005), -1544));
+    CHECK(flash_is(jlt_flash_by_bonds(1, benzene, ring, 8010), -1540, JLW_LOWERED));
+    CHECK(flash_is(jlt_flash_by_bonds(1, benzene, ring, 8005), -1544, JLW_RAISED));
 }
 
 static void test_classes(void)
 {
-    CHECK(temperature_is(jlt_flash_by_class(2, 7840), 943));
-    CHECK(temperature_is(jlt_flash_by_class(1, -20000), -21182));
-    CHECK(temperature_is(jlt_flash_by_class(10, 60000), 32290));
-    CHECK(temperature_refused(jlt_flash_by_class(0, 0), 16, 0));
-    CHECK(temperature_refused(jlt_flash_by_class(11, INT64_MIN), 16, 0));
-    CHECK(temperature_refused(jlt_flash_by_class(1, 60001), 7, 0));
+    CHECK(flash_is(jlt_flash_by_class(2, 7840), 943, JLW_RAISED));
+    CHECK(flash_is(jlt_flash_by_class(1, -20000), -21182, JLW_EXACT));
+    CHECK(flash_is(jlt_flash_by_class(10, 60000), 32290, JLW_EXACT));
+    CHECK(flash_is(jlt_flash_by_class(1, 0), -7322, JLW_EXACT));
+    CHECK(flash_is(jlt_flash_by_class(1, 500), -6976, JLW_RAISED)); /* a half */
+    CHECK(flash_is(jlt_flash_by_class(1, 10565), 0, JLW_LOWERED));  /* -0.00455 */
+    CHECK(flash_refused(jlt_flash_by_class(0, 0), 16, 0));
+    CHECK(flash_refused(jlt_flash_by_class(11, INT64_MIN), 16, 0));
+    CHECK(flash_refused(jlt_flash_by_class(1, 60001), 7, 0));
 }
 
 static void test_curves(void)
@@ -398,37 +462,46 @@ static void test_longest_curve(void)
 
 static void test_readings(void)
 {
-    CHECK(figure_is(jlt_parts_of_percent(0, 100, 100), 1000000));
-    CHECK(figure_is(jlt_parts_of_percent(0, 100, 1.0 / 32), 313));
-    CHECK(figure_is(jlt_parts_of_percent(0.5, 100, 0.25), 0));
-    CHECK(figure_is(jlt_parts_of_percent(0.5, 100, 0.5), 5000));
-    CHECK(figure_is(jlt_parts_of_percent(-0.0, 0, -0.0), 0));
-    CHECK(figure_refused(jlt_parts_of_percent(0, 100, nextafter(100, 200)), 14, 1));
-    CHECK(figure_refused(jlt_parts_of_percent(0, nextafter(100, 200), 1), 14, 0));
-    CHECK(figure_refused(jlt_parts_of_percent(1, 100, -5e-324), 14, 1));
-    CHECK(figure_is(jlt_parts_of_ppm(0, 1000000, 1000000), 1000000));
-    CHECK(figure_is(jlt_parts_of_ppm(0, 1000000, 0.5), 1));
-    CHECK(figure_is(jlt_parts_of_ppm(0, 1000000, nextafter(0.5, 0)), 0));
-    CHECK(figure_is(jlt_parts_of_ppm(0, 1000000, 5e-324), 0));
-    CHECK(figure_refused(jlt_parts_of_ppm(0, 1000000, (double)NAN), 14, 1));
-    CHECK(figure_refused(jlt_parts_of_ppm(0, 1000000, (double)INFINITY), 14, 1));
-    CHECK(figure_refused(jlt_parts_of_ppm((double)NAN, 1000000, 1), 14, 0));
-    CHECK(figure_refused(jlt_parts_of_ppm(2, 1, 1), 14, 0));
-    CHECK(figure_refused(jlt_parts_of_overload(0, 1000000), 14, 1));
-    CHECK(figure_refused(jlt_parts_of_overload(0, 1000001), 14, 0));
+    CHECK(rounded_is(jlt_parts_of_percent(0, 100, 100), 1000000, JLW_EXACT));
+    CHECK(rounded_is(jlt_parts_of_percent(0, 100, 1.0 / 32), 313, JLW_RAISED));
+    CHECK(rounded_is(jlt_parts_of_percent(0.5, 100, 0.25), 0, JLW_EXACT));
+    CHECK(rounded_is(jlt_parts_of_percent(0.5, 100, 0.5), 5000, JLW_EXACT));
+    CHECK(rounded_is(jlt_parts_of_percent(-0.0, 0, -0.0), 0, JLW_EXACT));
+    CHECK(rounded_is(jlt_parts_of_percent(0, 100, 5e-324), 0, JLW_LOWERED));
+    CHECK(rounded_is(jlt_parts_of_percent(0, 100, 4.54), 45400, JLW_LOWERED)); /* the double lies above 4.54 */
+    CHECK(rounded_refused(jlt_parts_of_percent(0, 100, nextafter(100, 200)), 14, 1));
+    CHECK(rounded_refused(jlt_parts_of_percent(0, nextafter(100, 200), 1), 14, 0));
+    CHECK(rounded_refused(jlt_parts_of_percent(1, 100, -5e-324), 14, 1));
+    CHECK(rounded_is(jlt_parts_of_ppm(0, 1000000, 1000000), 1000000, JLW_EXACT));
+    CHECK(rounded_is(jlt_parts_of_ppm(0, 1000000, 0.5), 1, JLW_RAISED));
+    CHECK(rounded_is(jlt_parts_of_ppm(0, 1000000, nextafter(0.5, 0)), 0, JLW_LOWERED));
+    CHECK(rounded_is(jlt_parts_of_ppm(0, 1000000, 5e-324), 0, JLW_LOWERED));
+    CHECK(rounded_is(jlt_parts_of_ppm(0, 1000000, 1e-300), 0, JLW_LOWERED));
+    CHECK(rounded_is(jlt_parts_of_ppm(0, 1000000, 0.0), 0, JLW_EXACT));
+    CHECK(rounded_is(jlt_parts_of_ppm(0, 1000000, -0.0), 0, JLW_EXACT));
+    CHECK(rounded_is(jlt_parts_of_ppm(0.4, 1000000, 0.4), 0, JLW_LOWERED));
+    CHECK(rounded_is(jlt_parts_of_ppm(0.4, 1000000, nextafter(0.4, 0)), 0, JLW_EXACT));
+    CHECK(rounded_is(jlt_parts_of_ppm(0.4, 1000000, 5e-324), 0, JLW_EXACT));
+    CHECK(rounded_refused(jlt_parts_of_ppm(0, 1000000, (double)NAN), 14, 1));
+    CHECK(rounded_refused(jlt_parts_of_ppm(0, 1000000, (double)INFINITY), 14, 1));
+    CHECK(rounded_refused(jlt_parts_of_ppm((double)NAN, 1000000, 1), 14, 0));
+    CHECK(rounded_refused(jlt_parts_of_ppm(2, 1, 1), 14, 0));
+    CHECK(rounded_refused(jlt_parts_of_overload(0, 1000000), 14, 1));
+    CHECK(rounded_refused(jlt_parts_of_overload(0, 1000001), 14, 0));
 }
 
 static void test_counts(void)
 {
     jlw_blend empty = jlw_empty_blend(), bad = {1, 0, 0};
-    jlw_atoms dioxide = {{1, 0, 2}}, many = {{1, 201}}, none = {{0}};
+    jlw_atoms dioxide = {{1, 0, 2}}, formaldehyde = {{1, 2, 1}}, many = {{1, 201}}, none = {{0}};
     CHECK(same_blend(jlt_add_fuel(empty, propane, 7).blend, add(empty, "C3H8", 7).blend));
     CHECK(blend_refused(jlt_add_fuel(empty, many, 7), 2, 2, empty));
     CHECK(blend_refused(jlt_add_fuel(empty, none, 7), 3, 1, empty));
     CHECK(blend_refused(jlt_add_fuel(empty, dioxide, 7), 4, 0, empty));
     CHECK(blend_refused(jlt_add_fuel(empty, propane, 1000001), 8, 0, empty));
     CHECK(blend_refused(jlt_add_fuel(bad, none, 1000001), 28, 0, bad));
-    CHECK(limits_are(jlt_fuel_limits_at(methane, 13400), 414, 3099));
+    CHECK(limits_are(jlt_fuel_limits_at(methane, 13400), 414, 3099, JLW_LOWERED, JLW_LOWERED));
+    CHECK(limits_are(jlt_fuel_limits_at(formaldehyde, 6966), 722, 5000, JLW_RAISED, JLW_EXACT));
     CHECK(limits_refused(jlt_fuel_limits_at(methane, 20001), 10, 0));
     CHECK(limits_refused(jlt_fuel_limits_at(dioxide, 20001), 4, 0));
     CHECK(figure_is(jlt_oxygen_coefficient(benzene), 30));
@@ -438,8 +511,10 @@ static void test_counts(void)
 static void test_sheets(void)
 {
 #define SHEET "formula,parts\r\nC3H8,300000\r\nC2H6,700000"
-    CHECK(limits_are(jlt_sheet_answer(TEXT(SHEET)), 258, 1487));
-    CHECK(limits_are(jlt_sheet_answer(TEXT(SHEET "\r\n")), 258, 1487));
+    CHECK(limits_are(jlt_sheet_answer(TEXT(SHEET)), 258, 1487, JLW_RAISED, JLW_LOWERED));
+    CHECK(limits_are(jlt_sheet_answer(TEXT(SHEET "\r\n")), 258, 1487, JLW_RAISED, JLW_LOWERED));
+    CHECK(limits_are(jlt_sheet_answer(TEXT("formula,parts\r\nC3H4,446418\r\nC3H5N,233105")), 250, 1442, JLW_EXACT, JLW_RAISED));
+    CHECK(limits_are(jlt_sheet_answer(TEXT("formula,parts\r\nCH4,5857\r\nCH5N,25608")), 422, 2500, JLW_RAISED, JLW_EXACT));
     CHECK(limits_refused(jlt_sheet_answer(NO_TEXT), 15, 0));
     CHECK(limits_refused(jlt_sheet_answer(TEXT("formula,parts")), 9, 0));
     CHECK(limits_refused(jlt_sheet_answer(TEXT("formula,parts\r\n")), 9, 0));
@@ -494,8 +569,12 @@ int main(void)
     test_write_rooms();
     test_write();
     test_oxygen();
+    test_fraction();
     test_limits();
+    test_exact_limits();
+    test_mass();
     test_blends();
+    test_exact_blends();
     test_out_of_bounds();
     test_division();
     test_bonds();

@@ -1,6 +1,7 @@
 //! Analyser readings to whole parts per million, from the bits of the float.
 
 use crate::refusal::{refuse, refuse_if, Answer};
+use crate::rounding::{rounded, Rounded};
 
 /// A detection limit and a ceiling in the reading's unit.
 #[derive(Clone, Copy, Debug)]
@@ -16,7 +17,7 @@ pub enum Reading {
     Overload,
 }
 
-pub fn parts(method: Method, reading: Reading) -> Answer<u64> {
+pub fn parts(method: Method, reading: Reading) -> Answer<Rounded> {
     match reading {
         Reading::Percent(value) => convert(method, 100.0, value, 10_000),
         Reading::Ppm(value) => convert(method, 1_000_000.0, value, 1),
@@ -32,25 +33,23 @@ fn check(method: Method, most: f64) -> Answer<()> {
     refuse_if(!good, 14, 0)
 }
 
-fn convert(method: Method, most: f64, value: f64, parts_each: u128) -> Answer<u64> {
+fn convert(method: Method, most: f64, value: f64, parts_each: u128) -> Answer<Rounded> {
     check(method, most)?;
     let good = 0.0 <= value && value <= method.ceiling;
     refuse_if(!good, 14, 1)?;
     if value < method.limit {
-        return Ok(0);
+        return Ok(Rounded::default());
     }
     Ok(rounded_product(value, parts_each))
 }
 
 /// value times factor, rounded; value is 0 to 1,000,000, factor at most 10,000.
-fn rounded_product(value: f64, factor: u128) -> u64 {
+fn rounded_product(value: f64, factor: u128) -> Rounded {
     let bits = value.to_bits();
     let exponent = (bits >> 52 & 0x7ff) as i32;
     let fraction = u128::from(bits & ((1 << 52) - 1));
     // value = mantissa / 2^shift, and shift is at least 33 for a value below 2^20
     let (mantissa, shift) = if exponent == 0 { (fraction, 1_074) } else { (fraction | 1 << 52, 1_075 - exponent) };
-    if shift > 100 {
-        return 0; // below 2^67 / 2^101
-    }
-    ((mantissa * factor + (1 << (shift - 1))) >> shift) as u64
+    // the product is below 2^67 / 2^shift: from a shift of 100 on it is 0, or lowered to 0, as with 100
+    rounded(mantissa * factor, 1u128 << shift.min(100))
 }

@@ -278,11 +278,11 @@ fn sheets(random: &mut Random) -> bool {
         (size, row(&format!("jlt_sheet_answer, {size} bytes"), &inputs, |text| lib::sheet_answer(text), |text| sheet::answer(text)))
     });
     let good = growth("byte", &sizes);
-    let pairs = many(|| limits::Pair { lower: random.below(1_000), upper: random.below(8_000) });
+    let pairs = many(|| (random.below(1_000), random.below(8_000)));
     row(
         "jlt_write_sheet_answer",
         &pairs,
-        |pair| lib::write_sheet_answer(ANSWERED, pair.lower, pair.upper, &mut [0; 96]),
+        |pair| lib::write_sheet_answer(ANSWERED, pair.0, pair.1, &mut [0; 96]),
         |pair| sheet::write_answer(Ok(*pair), &mut [0; 96]),
     );
     good

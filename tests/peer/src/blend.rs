@@ -2,7 +2,8 @@
 
 use crate::formula::{read, Atoms};
 use crate::limits::{admit, Pair, LIMITS};
-use crate::refusal::{refuse_if, round_div, Answer};
+use crate::refusal::{refuse_if, Answer};
+use crate::rounding::rounded;
 
 pub const MOST_PARTS: u64 = 1_000_000;
 /// 20 degrees, the hall's: meant where no temperature is named.
@@ -59,8 +60,8 @@ impl Blend {
         refuse_if(!(0..=20_000).contains(&temperature), 10, 0)?;
         let t = temperature as u64;
         Ok(Pair {
-            lower: round_div(10_000 * 1_000 * self.total * (127_700 - t), self.lower * 125_200),
-            upper: round_div(10_000 * 2_000 * self.total * (t + 78_700), self.upper * 81_200),
+            lower: rounded(10_000 * 1_000 * self.total * (127_700 - t), self.lower * 125_200),
+            upper: rounded(10_000 * 2_000 * self.total * (t + 78_700), self.upper * 81_200),
         })
     }
 

@@ -4,6 +4,7 @@ use crate::blend::USUAL_TEMPERATURE;
 use crate::formula::{read, Atoms};
 use crate::limits::{admit, quarters, Pair, LIMITS};
 use crate::refusal::{refuse_if, Answer};
+use crate::rounding::{rounded, Rounded};
 
 #[derive(Clone, Copy, Debug)]
 struct Fraction {
@@ -29,8 +30,8 @@ impl Fraction {
         Fraction::new(self.over * other.under, self.under * other.over)
     }
 
-    fn rounded(self) -> u64 {
-        ((2 * self.over + self.under) / (2 * self.under)) as u64
+    fn rounded(self) -> Rounded {
+        rounded(self.over, self.under)
     }
 }
 

@@ -11,7 +11,7 @@ const UNITS: u64 = 100 * 1_000 * 10_000 * 4;
 
 /// pressure >= phi/100 of 101,300 Pa, phi the lower limit as answered at 25 degrees.
 pub fn lower_temperature_limit(fuel: &Atoms, temperatures: &[i64], pressures: &[u64]) -> Answer<i64> {
-    let lower = fuel_limits_at(fuel, FIT_TEMPERATURE)?.lower;
+    let lower = fuel_limits_at(fuel, FIT_TEMPERATURE)?.lower.value;
     smallest(temperatures, pressures, |_, pressure| pressure * 10_000 >= lower * 101_300)
 }
 

@@ -1,7 +1,8 @@
 //! Flash and fire points from bonds, formula (33), and from a class, formula (34). Coefficients are thousandths.
 
 use crate::formula::{within_most, Atoms, MOST_ATOMS};
-use crate::refusal::{refuse, refuse_if, round_div_signed, Answer};
+use crate::refusal::{refuse, refuse_if, Answer};
+use crate::rounding::{rounded_signed, Rounded};
 
 /// Counts of bond kinds 1 to 22.
 pub type Bonds = [u64; 22];
@@ -62,11 +63,11 @@ fn boiling_admitted(boiling: i64) -> Answer<()> {
 }
 
 /// Thousandths times hundredths, rounded to hundredths.
-fn hundredths(sum: i64) -> i64 {
-    round_div_signed(sum, 1_000)
+fn hundredths(sum: i64) -> Rounded<i64> {
+    rounded_signed(sum, 1_000)
 }
 
-pub fn by_bonds(method: u64, atoms: &Atoms, bonds: &Bonds, boiling: i64) -> Answer<i64> {
+pub fn by_bonds(method: u64, atoms: &Atoms, bonds: &Bonds, boiling: i64) -> Answer<Rounded<i64>> {
     let &(constant, slope) = numbered(&METHODS, method)?;
     within_most(atoms)?;
     if let Some(kind) = bonds.iter().position(|&count| count > MOST_ATOMS) {
@@ -85,7 +86,7 @@ pub fn by_bonds(method: u64, atoms: &Atoms, bonds: &Bonds, boiling: i64) -> Answ
     Ok(hundredths(sum + slope * boiling))
 }
 
-pub fn by_class(class: u64, boiling: i64) -> Answer<i64> {
+pub fn by_class(class: u64, boiling: i64) -> Answer<Rounded<i64>> {
     let &(constant, slope) = numbered(&CLASSES, class)?;
     boiling_admitted(boiling)?;
     Ok(hundredths(100 * constant + slope * boiling))

@@ -307,7 +307,7 @@ pub fn counts(random: &mut Random) -> Atoms {
 /// C and H, or CO, with so many quarters: 2 to 1,000.
 pub fn fuel_of_quarters(quarters: u64) -> Atoms {
     let mut atoms = [0; 10];
-    let carbon = (quarters / 4).max(1);
+    let carbon = (quarters / 4).clamp(1, 200);
     let oxygen = if quarters < 4 { 1 } else { 0 };
     (atoms[0], atoms[1], atoms[2]) = (carbon, quarters + 2 * oxygen - 4 * carbon, oxygen);
     atoms
@@ -425,6 +425,46 @@ pub fn tie(random: &mut Random) -> (Blend, i64) {
     let factor = random.within(388, 486);
     let lower = total * 9_021 + random.below(total * (2_175_679 - 9_021));
     (Blend { total, lower, upper: 100_000 * share * factor as u64 }, 203 * factor - 78_700)
+}
+
+/// Quarters and temperature of every fuel with a limit of whole hundredths, for 151 quarters the lower and otherwise the upper; and of the only one with a half,
+/// 11 quarters, the lower.
+const EXACT_LIMITS: [(u64, i64); 9] =
+    [(151, 2_813), (4, 6_966), (88, 16_507), (113, 13_056), (238, 6_154), (363, 7_981), (488, 2_703), (988, 16_913), (11, 15_959)];
+
+/// One of these, or a hundredth of a degree beside it.
+pub fn exact_limits(random: &mut Random) -> (Atoms, i64) {
+    let (quarters, t) = random.pick(&EXACT_LIMITS);
+    (fuel_of_quarters(quarters), t + random.pick(&[0, 0, -1, 1]))
+}
+
+/// Temperatures at which 68,287,500 phi / (t + 27,315) is whole for every phi, but at the last two a half for an odd one.
+const EXACT_VOLUMES: [i64; 8] = [0, 810, 3_035, 9_105, 10_185, 18_210, 16_389, 17_685];
+
+/// A fuel of molar mass 5603.5, a quarter of 22,414, whose mass concentration is the quotient above, and such a temperature.
+pub fn exact_mass(random: &mut Random) -> (Atoms, i64) {
+    let (carbon, oxygen) = (random.within(150, 200) as u64, random.within(61, 198) as u64);
+    let rest = 5_568 - 12 * carbon - 16 * oxygen;
+    ([carbon, rest % 14, oxygen, rest / 14, 0, 0, 0, 1, 0, 0], random.pick(&EXACT_VOLUMES))
+}
+
+/// Limits in half hundredths that divide what stands over the mean below, and lie between those of 2 and of 1,000 quarters at every temperature.
+const LOWER_HALVES: [u64; 16] = [10, 16, 20, 25, 40, 50, 80, 100, 125, 200, 250, 400, 500, 625, 1_000, 1_250];
+const UPPER_HALVES: [u64; 17] = [125, 160, 200, 250, 400, 500, 625, 800, 1_000, 1_250, 2_000, 2_500, 3_125, 4_000, 5_000, 10_000, 12_500];
+
+/// Two fuels with neighbouring quarters, and parts, at most 679,523 in all, by which a limit of their blend is one of these.
+/// In half hundredths the lower limit is 50,000 (1277.00 - t) over 313 times the mean of the fuels' thousandths, the upper 100,000 (t + 787.00) over 203 times
+/// that of their two-thousandths.
+pub fn exact_mixture(random: &mut Random, t: i64) -> [(Atoms, u64); 2] {
+    let (wanted, factor, sum): (u64, u64, fn(Blend) -> u64) = if random.one_in(2) {
+        (50_000 * (127_700 - t) as u64 / random.pick(&LOWER_HALVES), 313, |blend| blend.lower)
+    } else {
+        (100_000 * (t + 78_700) as u64 / random.pick(&UPPER_HALVES), 203, |blend| blend.upper)
+    };
+    let found = |quarters| factor * Blend::EMPTY.add(&fuel_of_quarters(quarters), 1).map_or(0, sum);
+    let first = (2..1_000).rfind(|&quarters| found(quarters) <= wanted).unwrap_or(2);
+    let parts = [found(first + 1) - wanted, wanted - found(first)];
+    [(fuel_of_quarters(first), parts[0]), (fuel_of_quarters(first + 1), parts[1])]
 }
 
 pub fn blend(random: &mut Random) -> Blend {

@@ -6,6 +6,7 @@ use peer::division::Quotient;
 use peer::formula::Atoms;
 use peer::limits::Pair;
 use peer::refusal::{Answer, Refusal};
+use peer::rounding::Rounded;
 
 #[repr(C)]
 #[derive(Clone, Copy, PartialEq, Eq, Debug)]
@@ -26,12 +27,21 @@ pub struct Formula {
     pub atoms: Counts,
 }
 
-/// One number: a figure, or the length of a written text.
+/// One number that is not rounded: the oxygen coefficient, or the length of a written text.
 #[repr(C)]
 #[derive(Clone, Copy, PartialEq, Eq, Debug)]
 pub struct Figure {
     pub refusal: Refusal,
     pub value: u64,
+}
+
+/// A rounded figure, with u64 `jlw_rounded`, with i64 `jlt_rounded_temperature`.
+#[repr(C)]
+#[derive(Clone, Copy, PartialEq, Eq, Debug)]
+pub struct Marked<T> {
+    pub refusal: Refusal,
+    pub value: T,
+    pub mark: u64,
 }
 
 #[repr(C)]
@@ -40,6 +50,8 @@ pub struct Limits {
     pub refusal: Refusal,
     pub lower: u64,
     pub upper: u64,
+    pub lower_mark: u64,
+    pub upper_mark: u64,
 }
 
 #[repr(C)]
@@ -76,7 +88,7 @@ mod c {
             out_len: usize,
         ) -> Figure;
         pub fn jlw_oxygen_coefficient(text: *const u8, text_len: usize) -> Figure;
-        pub fn jlw_stoichiometric_fraction(text: *const u8, text_len: usize) -> Figure;
+        pub fn jlw_stoichiometric_fraction(text: *const u8, text_len: usize) -> Marked<u64>;
         pub fn jlw_fuel_limits(text: *const u8, text_len: usize) -> Limits;
         pub fn jlw_fuel_limits_at(text: *const u8, text_len: usize, temperature: i64) -> Limits;
         pub fn jlw_mass_concentration(text: *const u8, text_len: usize, temperature: i64) -> Limits;
@@ -86,8 +98,8 @@ mod c {
         pub fn jlw_blend_limits(total: u64, lower: u64, upper: u64) -> Limits;
         pub fn jlw_blend_limits_at(total: u64, lower: u64, upper: u64, temperature: i64) -> Limits;
         pub fn jlt_divide(n: u64, d: u64) -> Quotient;
-        pub fn jlt_flash_by_bonds(method: u64, atoms: Counts, bonds: BondCounts, boiling: i64) -> Temperature;
-        pub fn jlt_flash_by_class(class_number: u64, boiling: i64) -> Temperature;
+        pub fn jlt_flash_by_bonds(method: u64, atoms: Counts, bonds: BondCounts, boiling: i64) -> Marked<i64>;
+        pub fn jlt_flash_by_class(class_number: u64, boiling: i64) -> Marked<i64>;
         pub fn jlt_flash_by_curve(
             method: u64,
             fuel: Counts,
@@ -98,9 +110,9 @@ mod c {
             p_len: usize,
         ) -> Temperature;
         pub fn jlt_lower_temperature_limit(fuel: Counts, t: *const i64, t_len: usize, p: *const u64, p_len: usize) -> Temperature;
-        pub fn jlt_parts_of_percent(limit: f64, ceiling: f64, reading: f64) -> Figure;
-        pub fn jlt_parts_of_ppm(limit: f64, ceiling: f64, reading: f64) -> Figure;
-        pub fn jlt_parts_of_overload(limit: f64, ceiling: f64) -> Figure;
+        pub fn jlt_parts_of_percent(limit: f64, ceiling: f64, reading: f64) -> Marked<u64>;
+        pub fn jlt_parts_of_ppm(limit: f64, ceiling: f64, reading: f64) -> Marked<u64>;
+        pub fn jlt_parts_of_overload(limit: f64, ceiling: f64) -> Marked<u64>;
         pub fn jlt_add_fuel(blend: Blend, fuel: Counts, parts: u64) -> Blended;
         pub fn jlt_fuel_limits_at(fuel: Counts, temperature: i64) -> Limits;
         pub fn jlt_oxygen_coefficient(fuel: Counts) -> Figure;
@@ -139,7 +151,7 @@ pub fn oxygen_coefficient(text: &[u8]) -> Figure {
     unsafe { c::jlw_oxygen_coefficient(start(text), text.len()) }
 }
 
-pub fn stoichiometric_fraction(text: &[u8]) -> Figure {
+pub fn stoichiometric_fraction(text: &[u8]) -> Marked<u64> {
     unsafe { c::jlw_stoichiometric_fraction(start(text), text.len()) }
 }
 
@@ -179,11 +191,11 @@ pub fn divide(n: u64, d: u64) -> Quotient {
     unsafe { c::jlt_divide(n, d) }
 }
 
-pub fn flash_by_bonds(method: u64, atoms: &Atoms, bonds: &[u64; 22], boiling: i64) -> Temperature {
+pub fn flash_by_bonds(method: u64, atoms: &Atoms, bonds: &[u64; 22], boiling: i64) -> Marked<i64> {
     unsafe { c::jlt_flash_by_bonds(method, Counts { count: *atoms }, BondCounts { count: *bonds }, boiling) }
 }
 
-pub fn flash_by_class(class: u64, boiling: i64) -> Temperature {
+pub fn flash_by_class(class: u64, boiling: i64) -> Marked<i64> {
     unsafe { c::jlt_flash_by_class(class, boiling) }
 }
 
@@ -195,7 +207,7 @@ pub fn lower_temperature_limit(fuel: &Atoms, t: &[i64], p: &[u64]) -> Temperatur
     unsafe { c::jlt_lower_temperature_limit(Counts { count: *fuel }, start(t), t.len(), start(p), p.len()) }
 }
 
-pub fn parts(method: Method, reading: Reading) -> Figure {
+pub fn parts(method: Method, reading: Reading) -> Marked<u64> {
     let Method { limit, ceiling } = method;
     match reading {
         Reading::Percent(value) => unsafe { c::jlt_parts_of_percent(limit, ceiling, value) },
@@ -224,9 +236,16 @@ pub fn write_sheet_answer(refusal: Refusal, lower: u64, upper: u64, out: &mut [u
     unsafe { c::jlt_write_sheet_answer(refusal, lower, upper, start_mut(out), out.len()) }
 }
 
+/// The marks of an answer, each with the name of its figure.
+pub type Marks = [Option<(&'static str, u64)>; 2];
+
 /// An answer of either side.
 pub trait Shown: PartialEq + std::fmt::Debug {
     fn refusal(&self) -> Refusal;
+
+    fn marks(&self) -> Marks {
+        [None; 2]
+    }
 }
 
 macro_rules! shown {
@@ -239,7 +258,39 @@ macro_rules! shown {
     };
 }
 
-shown!(Formula, Figure, Limits, Blended, Temperature);
+shown!(Formula, Figure, Blended, Temperature);
+
+/// A figure of 0 has a name of its own: it is never raised.
+impl Shown for Marked<u64> {
+    fn refusal(&self) -> Refusal {
+        self.refusal
+    }
+
+    fn marks(&self) -> Marks {
+        [Some((if self.value == 0 { "0" } else { "above 0" }, self.mark)), None]
+    }
+}
+
+/// A figure below 0 has a name of its own: its mark is by size.
+impl Shown for Marked<i64> {
+    fn refusal(&self) -> Refusal {
+        self.refusal
+    }
+
+    fn marks(&self) -> Marks {
+        [Some((if self.value < 0 { "below 0" } else { "from 0" }, self.mark)), None]
+    }
+}
+
+impl Shown for Limits {
+    fn refusal(&self) -> Refusal {
+        self.refusal
+    }
+
+    fn marks(&self) -> Marks {
+        [Some(("lower", self.lower_mark)), Some(("upper", self.upper_mark))]
+    }
+}
 
 /// A division refuses nothing.
 impl Shown for Quotient {
@@ -267,9 +318,14 @@ pub fn figure_of(answer: Answer<u64>) -> Figure {
     Figure { refusal, value }
 }
 
+pub fn marked_of<T: Default>(answer: Answer<Rounded<T>>) -> Marked<T> {
+    let (refusal, Rounded { value, mark }) = split(answer, Rounded::default());
+    Marked { refusal, value, mark }
+}
+
 pub fn limits_of(answer: Answer<Pair>) -> Limits {
-    let (refusal, Pair { lower, upper }) = split(answer, Pair { lower: 0, upper: 0 });
-    Limits { refusal, lower, upper }
+    let (refusal, Pair { lower, upper }) = split(answer, Pair::default());
+    Limits { refusal, lower: lower.value, upper: upper.value, lower_mark: lower.mark, upper_mark: upper.mark }
 }
 
 /// With a refusal the blend comes back as given.

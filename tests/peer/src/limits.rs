@@ -2,7 +2,8 @@
 
 use crate::blend::{Blend, USUAL_TEMPERATURE};
 use crate::formula::{read, within_most, Atoms};
-use crate::refusal::{refuse, refuse_if, round_div, Answer};
+use crate::refusal::{refuse, refuse_if, Answer};
+use crate::rounding::{rounded, Rounded};
 
 /// 25 degrees: the temperature at which the limits' formulas were fitted.
 pub const FIT_TEMPERATURE: i64 = 2_500;
@@ -15,10 +16,11 @@ pub const FIRE_POINT: Atoms = [200, 200, 200, 200, 0, 0, 0, 0, 0, 0];
 /// Molar masses of C H O N and Cl, doubled.
 const DOUBLE_MASS: [(usize, u64); 5] = [(0, 24), (1, 2), (2, 32), (3, 28), (7, 71)];
 
-#[derive(Clone, Copy, PartialEq, Eq, Debug)]
+/// The figures of both limits.
+#[derive(Clone, Copy, PartialEq, Eq, Debug, Default)]
 pub struct Pair {
-    pub lower: u64,
-    pub upper: u64,
+    pub lower: Rounded,
+    pub upper: Rounded,
 }
 
 /// Formula (36) in quarters; the counts are at most 200.
@@ -48,9 +50,9 @@ pub fn oxygen_coefficient_of_text(text: &[u8]) -> Answer<u64> {
 }
 
 /// 100/(4.84 beta + 1) %.
-pub fn stoichiometric_fraction_of_text(text: &[u8]) -> Answer<u64> {
+pub fn stoichiometric_fraction_of_text(text: &[u8]) -> Answer<Rounded> {
     let quarters = oxygen_coefficient_of_text(text)?;
-    Ok(round_div(1_000_000, 121 * quarters + 100))
+    Ok(rounded(1_000_000u64, 121 * quarters + 100))
 }
 
 /// A fuel alone is a blend of it at 1 part.
@@ -66,12 +68,12 @@ pub fn fuel_limits_of_text(text: &[u8]) -> Answer<Pair> {
     fuel_limits_of_text_at(text, USUAL_TEMPERATURE)
 }
 
-/// 10 M phi / Vm at both limits as answered, Vm = 22.414 (t + 273.15)/273.15, in 0.01 g/m3.
+/// 10 M phi / Vm at both limits as answered, Vm = 22.414 (t + 273.15)/273.15, in 0.01 g/m3. The marks are of this rounding, whatever those of the limits.
 pub fn mass_concentration_of_text(text: &[u8], temperature: i64) -> Answer<Pair> {
     let atoms = read(text)?;
     let limits = fuel_limits_at(&atoms, temperature)?;
     let double_mass: u64 = DOUBLE_MASS.iter().map(|&(element, mass)| mass * atoms[element]).sum();
     let volume = 2 * 22_414 * (temperature as u64 + 27_315);
-    let at = |limit| round_div(10 * double_mass * limit * 27_315_000, volume);
+    let at = |limit: Rounded| rounded(10 * double_mass * limit.value * 27_315_000, volume);
     Ok(Pair { lower: at(limits.lower), upper: at(limits.upper) })
 }

@@ -61,12 +61,12 @@ fn parts(digits: &[u8]) -> Option<u64> {
     good.then(|| digits.iter().fold(0, |value, digit| value * 10 + u64::from(digit - b'0')))
 }
 
-/// The answer as text at the start of `out`, and its length; a refusal writes nothing.
-pub fn write_answer(answer: Answer<Pair>, out: &mut [u8]) -> Answer<usize> {
+/// The answer, both limits without their marks, as text at the start of `out`, and its length; a refusal writes nothing.
+pub fn write_answer(answer: Answer<(u64, u64)>, out: &mut [u8]) -> Answer<usize> {
     let mut line = [0; 96]; // at most 76 bytes
     let mut rest = &mut line[..];
     let written = match answer {
-        Ok(Pair { lower, upper }) => {
+        Ok((lower, upper)) => {
             write!(rest, "{ANSWER}0,0,{}.{:02},{}.{:02}\r\n", lower / 100, lower % 100, upper / 100, upper % 100)
         }
         Err(Refusal { number, place }) => write!(rest, "{ANSWER}{number},{place},,\r\n"),

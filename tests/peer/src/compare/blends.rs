@@ -1,9 +1,9 @@
 //! Blends handed in, true and nonsense, and lists of calls against the book of demand 3.
 
-use super::{fail, Source, Tally};
-use crate::generate::{blend, counts, fuel_text, parts, temperature, tie, Random};
+use super::{fail, Source, Tally, OF_LIMITS};
+use crate::generate::{blend, counts, exact_mixture, fuel_text, parts, spelled, temperature, tie, Random};
 use crate::library::*;
-use peer::blend::Blend;
+use peer::blend::{Blend, USUAL_TEMPERATURE};
 use peer::book::Book;
 use peer::formula;
 use peer::refusal::{Answer, Refusal};
@@ -54,17 +54,31 @@ fn join(source: &mut Source) -> u64 {
 }
 
 fn limits(source: &mut Source) -> u64 {
-    let mut plain = Tally::new("jlw_blend_limits", &[0, 9, 28]);
-    let mut at = Tally::new("jlw_blend_limits_at", &[0, 9, 10, 28]);
+    let mut plain = Tally::marked("jlw_blend_limits", &[0, 9, 28], OF_LIMITS);
+    let mut at = Tally::marked("jlw_blend_limits_at", &[0, 9, 10, 28], OF_LIMITS);
     for round in 0..150_000 {
-        let (blend, t) = match round % 5 {
-            0 => tie(&mut source.random),
+        let (blend, t) = match round % 10 {
+            0 | 5 => tie(&mut source.random),
+            1 => exact_blend(&mut source.random),
             _ => (blend(&mut source.random), temperature(&mut source.random)),
         };
         plain.compare(blend_limits(blend), limits_of(blend.limits()), || format!("{blend:?}"));
         at.compare(blend_limits_at(blend, t), limits_of(blend.limits_at(t)), || format!("{blend:?} at {t}"));
     }
     plain.finish() + at.finish()
+}
+
+/// The temperature that is meant where none is named, or any.
+fn usual_or_any(random: &mut Random) -> i64 {
+    if random.one_in(2) {
+        return USUAL_TEMPERATURE;
+    }
+    random.within(0, 20_000)
+}
+
+fn exact_blend(random: &mut Random) -> (Blend, i64) {
+    let t = usual_or_any(random);
+    (exact_mixture(random, t).iter().fold(Blend::EMPTY, |blend, (fuel, parts)| blend.add(fuel, *parts).unwrap_or(blend)), t)
 }
 
 #[derive(Debug)]
@@ -103,34 +117,51 @@ impl List {
         }
     }
 
+    /// Calls on empty blends: the fuels of an exact mixture go into the first and the last, these are joined, and the first is asked.
+    fn exact_calls(&mut self, random: &mut Random) -> Vec<Call> {
+        let t = usual_or_any(random);
+        let last = self.blends.len() - 1;
+        let mut calls = Vec::new();
+        for (page, (fuel, parts)) in [0, last].into_iter().zip(exact_mixture(random, t)) {
+            calls.push(Call::Add { page, fuel: self.fuels.len(), parts, by_counts: random.one_in(2) });
+            self.fuels.push(spelled(random, &fuel));
+        }
+        if last > 0 {
+            calls.push(Call::Join { first: 0, second: last });
+        }
+        calls.extend([Call::Ask { page: 0 }, Call::AskAt { page: 0, temperature: t }]);
+        calls
+    }
+
     /// The library's answer to a call on the blends as the calls before left them, and the book's.
-    fn answers(&mut self, call: &Call) -> (Limits, Limits) {
+    fn answers(&mut self, call: &Call) -> (Told, Told) {
         match *call {
             Call::Add { page, fuel, parts, by_counts } => {
                 let library = self.add(page, fuel, parts, by_counts);
-                (library, without_limits(self.book.add_text(page, &self.fuels[fuel], parts)))
+                (Told::Change(library), changed(self.book.add_text(page, &self.fuels[fuel], parts)))
             }
             Call::Join { first, second } => {
                 let library = join_blends(self.blends[first], self.blends[second]);
                 self.blends[first] = library.blend;
-                (no_limits(library.refusal), without_limits(self.book.join(first, second)))
+                (Told::Change(library.refusal), changed(self.book.join(first, second)))
             }
-            Call::Ask { page } => (blend_limits(self.blends[page]), limits_of(self.book.limits(page))),
+            Call::Ask { page } => (Told::Limits(blend_limits(self.blends[page])), Told::Limits(limits_of(self.book.limits(page)))),
             Call::AskAt { page, temperature } => {
-                (blend_limits_at(self.blends[page], temperature), limits_of(self.book.limits_at(page, temperature)))
+                let library = blend_limits_at(self.blends[page], temperature);
+                (Told::Limits(library), Told::Limits(limits_of(self.book.limits_at(page, temperature))))
             }
         }
     }
 
     /// By text, or by the counts that a text reads to.
-    fn add(&mut self, page: usize, fuel: usize, parts: u64, by_counts: bool) -> Limits {
+    fn add(&mut self, page: usize, fuel: usize, parts: u64, by_counts: bool) -> Refusal {
         let (blend, text) = (self.blends[page], &self.fuels[fuel]);
         let library = match formula::read(text) {
             Ok(atoms) if by_counts => add_fuel_by_counts(blend, &atoms, parts),
             _ => add_fuel(blend, text, parts),
         };
         self.blends[page] = library.blend;
-        no_limits(library.refusal)
+        library.refusal
     }
 
     fn make(&mut self, tally: &mut Tally, call: Call) {
@@ -141,18 +172,40 @@ impl List {
     }
 }
 
-fn no_limits(refusal: Refusal) -> Limits {
-    Limits { refusal, lower: 0, upper: 0 }
+/// What a call of a list is told: of a change whether it is refused, of a question the limits.
+#[derive(PartialEq, Debug)]
+enum Told {
+    Change(Refusal),
+    Limits(Limits),
 }
 
-fn without_limits(answer: Answer<()>) -> Limits {
-    no_limits(answer.err().unwrap_or(ANSWERED))
+impl Shown for Told {
+    fn refusal(&self) -> Refusal {
+        match self {
+            Told::Change(refusal) => *refusal,
+            Told::Limits(limits) => limits.refusal,
+        }
+    }
+
+    fn marks(&self) -> Marks {
+        match self {
+            Told::Change(_) => [None; 2],
+            Told::Limits(limits) => limits.marks(),
+        }
+    }
+}
+
+fn changed(answer: Answer<()>) -> Told {
+    Told::Change(answer.err().unwrap_or(ANSWERED))
 }
 
 fn lists(source: &mut Source) -> u64 {
-    let mut tally = Tally::new("lists of calls, the book", &[0, 1, 2, 3, 4, 8, 9, 10]);
+    let mut tally = Tally::marked("lists of calls, the book", &[0, 1, 2, 3, 4, 8, 9, 10], OF_LIMITS);
     for _ in 0..12_000 {
         let mut list = List::new(&mut source.random);
+        if source.random.one_in(4) {
+            list.exact_calls(&mut source.random).into_iter().for_each(|call| list.make(&mut tally, call));
+        }
         let most_parts = source.random.pick(&[3, 1_000, 50_000, 600_000]);
         for _ in 0..=source.random.below(50) {
             let call = list.next_call(&mut source.random, most_parts);
@@ -164,12 +217,12 @@ fn lists(source: &mut Source) -> u64 {
 
 /// Every entry once, in any order, on blends that are joined in any grouping until one is left: the book's answer, or a refusal somewhere.
 fn routes(source: &mut Source) -> u64 {
-    let mut tally = Tally::new("routes, the book", &[0, 8]);
+    let mut tally = Tally::marked("routes, the book", &[0, 8], OF_LIMITS);
     for _ in 0..8_000 {
-        let entries = entries(&mut source.random);
+        let t = source.random.within(0, 20_000);
+        let entries = if source.random.one_in(4) { exact_entries(&mut source.random, t) } else { entries(&mut source.random) };
         let mut book = Book::new(1);
         let refused = entries.iter().find_map(|(text, parts)| book.add_text(0, text, *parts).err());
-        let t = source.random.within(0, 20_000);
         let wanted = limits_of(refused.map_or_else(|| book.limits_at(0, t), Err));
         for _ in 0..3 {
             let found = route(&mut source.random, entries.clone(), t);
@@ -197,6 +250,16 @@ fn entries(random: &mut Random) -> Entries {
     entries
 }
 
+/// An exact mixture, each fuel's parts in two entries.
+fn exact_entries(random: &mut Random, t: i64) -> Entries {
+    let mut entries = Entries::new();
+    for (fuel, parts) in exact_mixture(random, t) {
+        let first = random.below(parts + 1);
+        entries.extend([first, parts - first].map(|parts| (spelled(random, &fuel), parts)));
+    }
+    entries
+}
+
 /// Places are 0 with refusal 8, so that the first refusal of any route is the book's.
 fn route(random: &mut Random, mut entries: Entries, t: i64) -> Limits {
     random.shuffle(&mut entries);
@@ -205,7 +268,7 @@ fn route(random: &mut Random, mut entries: Entries, t: i64) -> Limits {
         let page = random.index(blends.len());
         let added = add_fuel(blends[page], text, *parts);
         if added.refusal != ANSWERED {
-            return no_limits(added.refusal);
+            return limits_of(Err(added.refusal));
         }
         blends[page] = added.blend;
     }
@@ -214,7 +277,7 @@ fn route(random: &mut Random, mut entries: Entries, t: i64) -> Limits {
         let first = random.index(blends.len());
         let joined = join_blends(blends[first], second);
         if joined.refusal != ANSWERED {
-            return no_limits(joined.refusal);
+            return limits_of(Err(joined.refusal));
         }
         blends[first] = joined.blend;
     }

@@ -1,6 +1,6 @@
 //! Flash and fire points from bonds and from a class.
 
-use super::{Source, Tally};
+use super::{Expected, Source, Tally, ALL};
 use crate::generate::{boiling, Random, NUMBER_EDGES};
 use crate::library::*;
 use peer::flash::{by_bonds, by_class, Bonds};
@@ -9,6 +9,8 @@ use peer::formula::Atoms;
 pub fn run(source: &mut Source) -> u64 {
     bonds(source) + classes(source)
 }
+
+const OF_TEMPERATURES: Expected = &[("below 0", ALL), ("from 0", ALL)];
 
 /// Kinds less one with a coefficient in every method, and the bonds of hydrogen.
 const COMMON: [usize; 9] = [0, 1, 2, 3, 4, 5, 6, 16, 17];
@@ -47,7 +49,7 @@ fn atom_counts(random: &mut Random, bonds: &Bonds) -> Atoms {
     atoms
 }
 
-/// Every boiling point, with every half among the sums.
+/// Every boiling point, with every half and every whole hundredth among the sums.
 const BOILING: std::ops::RangeInclusive<i64> = -20_001..=60_001;
 
 /// Bonds that every method takes, and their atoms.
@@ -59,10 +61,10 @@ fn common_bonds(random: &mut Random) -> (Atoms, Bonds) {
 }
 
 fn bonds(source: &mut Source) -> u64 {
-    let mut tally = Tally::new("jlt_flash_by_bonds", &[0, 2, 5, 6, 7, 16]);
+    let mut tally = Tally::marked("jlt_flash_by_bonds", &[0, 2, 5, 6, 7, 16], OF_TEMPERATURES);
     let random = &mut source.random;
     let mut one = |method, atoms: &Atoms, bonds: &Bonds, boiling| {
-        let peer = temperature_of(by_bonds(method, atoms, bonds, boiling));
+        let peer = marked_of(by_bonds(method, atoms, bonds, boiling));
         tally.compare(flash_by_bonds(method, atoms, bonds, boiling), peer, || {
             format!("method {method}, atoms {atoms:?}, bonds {bonds:?}, boiling {boiling}")
         });
@@ -79,9 +81,9 @@ fn bonds(source: &mut Source) -> u64 {
 }
 
 fn classes(source: &mut Source) -> u64 {
-    let mut tally = Tally::new("jlt_flash_by_class", &[0, 7, 16]);
+    let mut tally = Tally::marked("jlt_flash_by_class", &[0, 7, 16], OF_TEMPERATURES);
     let mut one = |class, boiling| {
-        let peer = temperature_of(by_class(class, boiling));
+        let peer = marked_of(by_class(class, boiling));
         tally.compare(flash_by_class(class, boiling), peer, || format!("class {class}, boiling {boiling}"));
     };
     for class in 0..=11 {

@@ -1,23 +1,25 @@
 //! Analyser readings.
 
-use super::{Source, Tally};
+use super::{Expected, Source, Tally, ALL};
 use crate::generate::Random;
 use crate::library::*;
 use peer::analyser::{self, Method, Reading};
+use peer::rounding::{EXACT, LOWERED};
+
+const OF_PARTS: Expected = &[("0", &[EXACT, LOWERED]), ("above 0", ALL)];
 
 pub fn run(source: &mut Source) -> u64 {
-    kind(source, "jlt_parts_of_percent", &[0, 14], 100.0, Reading::Percent)
-        + kind(source, "jlt_parts_of_ppm", &[0, 14], 1e6, Reading::Ppm)
-        + kind(source, "jlt_parts_of_overload", &[14], 1e6, |_| Reading::Overload)
+    kind(source, Tally::marked("jlt_parts_of_percent", &[0, 14], OF_PARTS), 100.0, Reading::Percent)
+        + kind(source, Tally::marked("jlt_parts_of_ppm", &[0, 14], OF_PARTS), 1e6, Reading::Ppm)
+        + kind(source, Tally::new("jlt_parts_of_overload", &[14]), 1e6, |_| Reading::Overload)
 }
 
-fn kind(source: &mut Source, name: &'static str, numbers: &'static [u64], most: f64, reading: fn(f64) -> Reading) -> u64 {
-    let mut tally = Tally::new(name, numbers);
+fn kind(source: &mut Source, mut tally: Tally, most: f64, reading: fn(f64) -> Reading) -> u64 {
     for _ in 0..120_000 {
         let method = method(&mut source.random, most);
         let value = value(&mut source.random, most, method);
         let found = parts(method, reading(value));
-        tally.compare(found, figure_of(analyser::parts(method, reading(value))), || {
+        tally.compare(found, marked_of(analyser::parts(method, reading(value))), || {
             let Method { limit, ceiling } = method;
             format!(
                 "limit {limit:e} ceiling {ceiling:e} reading {value:e} ({:#x} {:#x} {:#x})",
@@ -53,11 +55,15 @@ fn method(random: &mut Random, most: f64) -> Method {
     Method { limit, ceiling }
 }
 
-/// A reading: plain, at a tie, special, or next to the limit or the ceiling.
+/// A reading: plain, at whole parts or a tie, special, or next to the limit or the ceiling.
 fn value(random: &mut Random, most: f64, method: Method) -> f64 {
     match random.below(8) {
         0 | 1 => plain(random, most),
-        2 | 3 => {
+        2 => {
+            let whole = whole(random, most);
+            near(random, whole)
+        }
+        3 => {
             let tie = tie(random, most);
             near(random, tie)
         }
@@ -75,6 +81,17 @@ fn plain(random: &mut Random, most: f64) -> f64 {
         1 => (most * share * 100.0).round() / 100.0,
         _ => most * share / (1u64 << random.below(40)) as f64,
     }
+}
+
+/// Whole parts: exact ones (n ppm, 16ths of a percent), and the floats nearest to others.
+fn whole(random: &mut Random, most: f64) -> f64 {
+    if most > 100.0 {
+        return random.below(1_000_001) as f64;
+    }
+    if random.one_in(2) {
+        return random.below(1_601) as f64 / 16.0;
+    }
+    random.below(1_000_001) as f64 / 10_000.0
 }
 
 /// Halves of a part: exact ones (n + 1/2 ppm, an odd number of 32nds of a percent), and the floats nearest to others.

@@ -1,9 +1,9 @@
 //! The mixture sheet, valid and damaged, and its answer as text.
 
-use super::{Source, Tally};
-use crate::generate::{damage, fuel_text, Random};
+use super::{Source, Tally, OF_LIMITS};
+use crate::generate::{damage, exact_mixture, fuel_text, spelled, Random};
 use crate::library::*;
-use peer::limits::Pair;
+use peer::blend::USUAL_TEMPERATURE;
 use peer::refusal::Refusal;
 use peer::sheet;
 
@@ -62,6 +62,15 @@ fn sheet(random: &mut Random) -> Vec<u8> {
     out
 }
 
+/// A sheet with a limit of whole hundredths, or that and a half.
+fn exact_sheet(random: &mut Random) -> Vec<u8> {
+    let mut out = b"formula,parts".to_vec();
+    for (fuel, parts) in exact_mixture(random, USUAL_TEMPERATURE) {
+        out.extend([b"\r\n", &spelled(random, &fuel)[..], format!(",{parts}").as_bytes()].concat());
+    }
+    out
+}
+
 /// Exactly `length` bytes: many records, the last one padded to fit.
 pub fn sheet_of_length(random: &mut Random, length: usize) -> Vec<u8> {
     let mut out = b"formula,parts".to_vec();
@@ -77,7 +86,7 @@ pub fn sheet_of_length(random: &mut Random, length: usize) -> Vec<u8> {
 }
 
 fn answers(source: &mut Source) -> u64 {
-    let mut tally = Tally::new("jlt_sheet_answer", &[0, 1, 2, 3, 4, 8, 9, 15]);
+    let mut tally = Tally::marked("jlt_sheet_answer", &[0, 1, 2, 3, 4, 8, 9, 15], OF_LIMITS);
     let mut one = |source: &mut Source, text: &[u8]| {
         let lent = source.bytes.hold(text);
         tally.compare(sheet_answer(lent), limits_of(sheet::answer(text)), || text.escape_ascii().to_string());
@@ -90,7 +99,7 @@ fn answers(source: &mut Source) -> u64 {
         one(source, &[&text[..length - 2], b"\r\n"].concat());
     }
     for round in 0..120_000 {
-        let mut text = sheet(&mut source.random);
+        let mut text = if round % 16 == 1 { exact_sheet(&mut source.random) } else { sheet(&mut source.random) };
         if round % 3 == 0 {
             damage(&mut source.random, &mut text, ALPHABET);
         }
@@ -136,21 +145,21 @@ fn texts(source: &mut Source) -> u64 {
     for _ in 0..20_000 {
         let random = &mut source.random;
         let refusal = if random.one_in(2) { ANSWERED } else { Refusal { number: number(random), place: number(random) } };
-        let pair = Pair { lower: number(random), upper: number(random) };
-        write_into_rooms(source, &mut tally, refusal, pair);
+        let limits = (number(random), number(random));
+        write_into_rooms(source, &mut tally, refusal, limits);
     }
     tally.finish()
 }
 
-fn write_into_rooms(source: &mut Source, tally: &mut Tally, refusal: Refusal, pair: Pair) {
-    let answer = if refusal.number == 0 { Ok(pair) } else { Err(refusal) };
+fn write_into_rooms(source: &mut Source, tally: &mut Tally, refusal: Refusal, limits: (u64, u64)) {
+    let answer = if refusal.number == 0 { Ok(limits) } else { Err(refusal) };
     let length = sheet::write_answer(answer, &mut [0; 128]).unwrap_or(0);
     for room in (length - 2..=length + 2).chain([0, 1, source.random.index(128)]) {
         let mut expected = vec![source.random.next() as u8; room];
         let lent = source.bytes.hold(&expected);
-        let library = write_sheet_answer(refusal, pair.lower, pair.upper, lent);
+        let library = write_sheet_answer(refusal, limits.0, limits.1, lent);
         let peer = figure_of(sheet::write_answer(answer, &mut expected).map(|length| length as u64));
-        tally.compare(library, peer, || format!("{refusal:?} {pair:?} into {room} bytes"));
-        tally.compare_bytes(lent, &expected, || format!("{refusal:?} {pair:?} into {room} bytes"));
+        tally.compare(library, peer, || format!("{refusal:?} {limits:?} into {room} bytes"));
+        tally.compare_bytes(lent, &expected, || format!("{refusal:?} {limits:?} into {room} bytes"));
     }
 }

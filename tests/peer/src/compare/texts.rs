@@ -1,22 +1,27 @@
 //! Formula reading and writing, and the questions about one fuel.
 
-use super::{fail, Source, Tally};
-use crate::generate::{counts, fuel_of_quarters, fuel_text, spelled, temperature, text, Random};
+use super::{fail, Expected, Source, Tally, ALL, OF_LIMITS};
+use crate::generate::{counts, exact_limits, exact_mass, fuel_of_quarters, fuel_text, spelled, temperature, text, Random};
 use crate::library::*;
 use peer::formula::{self, Atoms};
 use peer::grammar::{texts, Formulas};
+use peer::rounding::{LOWERED, RAISED};
 use peer::{limits, refusal::refuse};
+
+const OF_FRACTIONS: Expected = &[("above 0", ALL)];
+/// At 20.00 no limit of a fuel is exact: neither 313 divides 25,000 * 1257.00, nor 7 50,000 * 807.00.
+const OF_USUAL_LIMITS: Expected = &[("lower", &[RAISED, LOWERED]), ("upper", &[RAISED, LOWERED])];
 
 pub fn run(source: &mut Source) -> u64 {
     read(source)
         + write(source)
-        + figure(source, "jlw_oxygen_coefficient", oxygen_coefficient, |text| figure_of(limits::oxygen_coefficient_of_text(text)))
-        + figure(source, "jlw_stoichiometric_fraction", stoichiometric_fraction, |text| {
-            figure_of(limits::stoichiometric_fraction_of_text(text))
+        + figure(source, "jlw_oxygen_coefficient", &[], oxygen_coefficient, |text| figure_of(limits::oxygen_coefficient_of_text(text)))
+        + figure(source, "jlw_stoichiometric_fraction", OF_FRACTIONS, stoichiometric_fraction, |text| {
+            marked_of(limits::stoichiometric_fraction_of_text(text))
         })
-        + figure(source, "jlw_fuel_limits", fuel_limits, |text| limits_of(limits::fuel_limits_of_text(text)))
-        + figure_at(source, "jlw_fuel_limits_at", fuel_limits_at, limits::fuel_limits_of_text_at)
-        + figure_at(source, "jlw_mass_concentration", mass_concentration, limits::mass_concentration_of_text)
+        + figure(source, "jlw_fuel_limits", OF_USUAL_LIMITS, fuel_limits, |text| limits_of(limits::fuel_limits_of_text(text)))
+        + figure_at(source, "jlw_fuel_limits_at", exact_limits, fuel_limits_at, limits::fuel_limits_of_text_at)
+        + figure_at(source, "jlw_mass_concentration", exact_mass, mass_concentration, limits::mass_concentration_of_text)
         + by_counts(source)
 }
 
@@ -101,8 +106,8 @@ fn any_fuel(random: &mut Random, round: u64) -> Vec<u8> {
     }
 }
 
-fn figure<A: Shown>(source: &mut Source, name: &'static str, library: fn(&[u8]) -> A, peer: fn(&[u8]) -> A) -> u64 {
-    let mut tally = Tally::new(name, &[0, 1, 2, 3, 4]);
+fn figure<A: Shown>(source: &mut Source, name: &'static str, marks: Expected, library: fn(&[u8]) -> A, peer: fn(&[u8]) -> A) -> u64 {
+    let mut tally = Tally::marked(name, &[0, 1, 2, 3, 4], marks);
     for round in 0..80_000 {
         let text = if round > 1_000 && round % 5 == 0 { text(&mut source.random) } else { any_fuel(&mut source.random, round) };
         let lent = source.bytes.hold(&text);
@@ -111,12 +116,23 @@ fn figure<A: Shown>(source: &mut Source, name: &'static str, library: fn(&[u8]) 
     tally.finish()
 }
 
+type ExactAt = fn(&mut Random) -> (Atoms, i64);
+type LibraryAt = fn(&[u8], i64) -> Limits;
 type PeerAt = fn(&[u8], i64) -> peer::refusal::Answer<limits::Pair>;
 
-fn figure_at(source: &mut Source, name: &'static str, library: fn(&[u8], i64) -> Limits, peer: PeerAt) -> u64 {
-    let mut tally = Tally::new(name, &[0, 1, 2, 3, 4, 10]);
+/// A fuel and a temperature, after the first rounds also such as give exact figures.
+fn any_fuel_at(random: &mut Random, round: u64, exact: ExactAt) -> (Vec<u8>, i64) {
+    if round > 1_000 && round % 16 == 1 {
+        let (fuel, t) = exact(random);
+        return (spelled(random, &fuel), t);
+    }
+    (any_fuel(random, round), temperature(random))
+}
+
+fn figure_at(source: &mut Source, name: &'static str, exact: ExactAt, library: LibraryAt, peer: PeerAt) -> u64 {
+    let mut tally = Tally::marked(name, &[0, 1, 2, 3, 4, 10], OF_LIMITS);
     for round in 0..100_000 {
-        let (text, t) = (any_fuel(&mut source.random, round), temperature(&mut source.random));
+        let (text, t) = any_fuel_at(&mut source.random, round, exact);
         let lent = source.bytes.hold(&text);
         tally.compare(library(lent, t), limits_of(peer(&text, t)), || format!("{} at {t}", text.escape_ascii()));
     }
@@ -126,9 +142,10 @@ fn figure_at(source: &mut Source, name: &'static str, library: fn(&[u8], i64) ->
 /// The same questions with a fuel given by counts.
 fn by_counts(source: &mut Source) -> u64 {
     let mut oxygen = Tally::new("jlt_oxygen_coefficient", &[0, 2, 3, 4]);
-    let mut limits_at = Tally::new("jlt_fuel_limits_at", &[0, 2, 3, 4, 10]);
-    for _ in 0..80_000 {
-        let (atoms, t) = (counts(&mut source.random), temperature(&mut source.random));
+    let mut limits_at = Tally::marked("jlt_fuel_limits_at", &[0, 2, 3, 4, 10], OF_LIMITS);
+    for round in 0..80_000 {
+        let random = &mut source.random;
+        let (atoms, t) = if round % 16 == 0 { exact_limits(random) } else { (counts(random), temperature(random)) };
         oxygen.compare(oxygen_coefficient_by_counts(&atoms), figure_of(limits::oxygen_coefficient(&atoms)), || format!("{atoms:?}"));
         limits_at.compare(fuel_limits_by_counts(&atoms, t), limits_of(limits::fuel_limits_at(&atoms, t)), || format!("{atoms:?} at {t}"));
     }

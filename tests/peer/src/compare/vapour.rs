@@ -52,7 +52,7 @@ fn lower_limits(source: &mut Source) -> u64 {
     let mut scans = 0;
     for _ in 0..CASES {
         let fuel = counts(&mut source.random);
-        let lower = peer_limits_at(&fuel, FIT_TEMPERATURE).map_or(300, |pair| pair.lower);
+        let lower = peer_limits_at(&fuel, FIT_TEMPERATURE).map_or(300, |pair| pair.lower.value);
         let curve = curve_for(&mut source.random, |_| (lower * 1_013).div_ceil(100));
         let Curve { temperatures, pressures } = &curve;
         let (t, p) = (source.temperatures.hold(temperatures), source.pressures.hold(pressures));
