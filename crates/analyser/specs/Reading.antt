@@ -39,8 +39,11 @@ unfoldable pub goodMethod : Fraction → Method → Bool
 goodMethod top m = upTo (m .ceiling) top && upTo (m .limit) (amount (m .ceiling))
 
 -- the parts of a reading of x units of `scale` parts: rounded from the exact value; below the limit none, exactly
+abbrev pub noParts : Rounded
+noParts = record { value = 0; mark = exact }
+
 unfoldable pub converted : ℕ → Method → Float → Rounded
-converted scale m x = cond (atMost (amount (m .limit)) (amount x)) (rounded (whole scale ⊠ amount x)) (record { value = 0; mark = exact })
+converted scale m x = cond (atMost (amount (m .limit)) (amount x)) (rounded (whole scale ⊠ amount x)) noParts
 
 -- the answer to such a reading, by a method whose ceiling is at most `top`
 unfoldable pub measured : Fraction → ℕ → Method → Float → Outcome Rounded

@@ -24,6 +24,12 @@ pub enum Reading {
     Overload,
 }
 
+// No parts, exactly.
+const NO_PARTS: Rounded = Rounded {
+    value: 0,
+    mark: answer::EXACT,
+};
+
 // Whether 0 ≤ x ≤ high.
 fn is_up_to(x: f64, high: f64) -> bool
     requires { ⌜ T (isAmount high) ⌝ }
@@ -51,10 +57,7 @@ fn below_half(bits: u64) -> Rounded
     ensures { λ r. ⌜ r ≡ belowHalf bits ⌝ }
 {
     if bits == 0 {
-        return Rounded {
-            value: 0,
-            mark: answer::EXACT,
-        };
+        return NO_PARTS;
     }
     Rounded {
         value: 0,
@@ -91,10 +94,7 @@ fn measure(method: Method, x: f64, top: f64, factor: u64, twos: u64) -> RoundedF
     if method.limit <= x {
         return answered_rounded(whole_parts(x, factor, twos));
     }
-    answered_rounded(Rounded {
-        value: 0,
-        mark: answer::EXACT,
-    })
+    answered_rounded(NO_PARTS)
 }
 
 // The answer to an overload, whose method is in parts per million.

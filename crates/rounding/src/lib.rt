@@ -95,7 +95,8 @@ pub fn round_div(n: u64, d: u64) -> Rounded
             mark: answer::EXACT,
         };
     }
-    if d - rest <= rest {
+    let missing = d - rest;
+    if missing <= rest {
         return Rounded {
             value: q + 1,
             mark: answer::RAISED,
@@ -136,14 +137,15 @@ pub fn round_div_signed(n: i64, d: u64) -> RoundedSigned
     ensures rounds { λ r. ⌜ Roundsℤ n d r ⌝ }
 {
     let quotient = round_div(size(n), d);
+    let mark = quotient.mark;
     if n < 0 {
         return RoundedSigned {
             value: negated(quotient.value),
-            mark: quotient.mark,
+            mark,
         };
     }
     RoundedSigned {
         value: quotient.value as i64,
-        mark: quotient.mark,
+        mark,
     }
 }

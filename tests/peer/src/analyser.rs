@@ -1,7 +1,7 @@
 //! Analyser readings to whole parts per million, from the bits of the float.
 
 use crate::refusal::{refuse, refuse_if, Answer};
-use crate::rounding::{rounded, Rounded};
+use crate::rounding::{rounded_shift, Rounded};
 
 /// A detection limit and a ceiling in the reading's unit.
 #[derive(Clone, Copy, Debug)]
@@ -46,10 +46,10 @@ fn convert(method: Method, most: f64, value: f64, parts_each: u128) -> Answer<Ro
 /// value times factor, rounded; value is 0 to 1,000,000, factor at most 10,000.
 fn rounded_product(value: f64, factor: u128) -> Rounded {
     let bits = value.to_bits();
-    let exponent = (bits >> 52 & 0x7ff) as i32;
+    let exponent = (bits >> 52 & 0x7ff) as u32;
     let fraction = u128::from(bits & ((1 << 52) - 1));
     // value = mantissa / 2^shift, and shift is at least 33 for a value below 2^20
     let (mantissa, shift) = if exponent == 0 { (fraction, 1_074) } else { (fraction | 1 << 52, 1_075 - exponent) };
     // the product is below 2^67 / 2^shift: from a shift of 100 on it is 0, or lowered to 0, as with 100
-    rounded(mantissa * factor, 1u128 << shift.min(100))
+    rounded_shift(mantissa * factor, shift.min(100))
 }

@@ -4,7 +4,7 @@ use crate::blend::USUAL_TEMPERATURE;
 use crate::formula::{read, Atoms};
 use crate::limits::{admit, quarters, Pair, LIMITS};
 use crate::refusal::{refuse_if, Answer};
-use crate::rounding::{rounded, Rounded};
+use crate::rounding::{rounded_wide, Rounded};
 
 #[derive(Clone, Copy, Debug)]
 struct Fraction {
@@ -31,7 +31,7 @@ impl Fraction {
     }
 
     fn rounded(self) -> Rounded {
-        rounded(self.over, self.under)
+        rounded_wide(self.over, self.under)
     }
 }
 

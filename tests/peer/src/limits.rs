@@ -52,7 +52,7 @@ pub fn oxygen_coefficient_of_text(text: &[u8]) -> Answer<u64> {
 /// 100/(4.84 beta + 1) %.
 pub fn stoichiometric_fraction_of_text(text: &[u8]) -> Answer<Rounded> {
     let quarters = oxygen_coefficient_of_text(text)?;
-    Ok(rounded(1_000_000u64, 121 * quarters + 100))
+    Ok(rounded(1_000_000, 121 * quarters + 100))
 }
 
 /// A fuel alone is a blend of it at 1 part.

@@ -9,9 +9,8 @@ use borrow.Author.Tests.{not-true, not-false}
 use Rattle.answer.specs.declared.Rounded.{Rounded}
 use Rattle.answer.specs.declared.RoundedFigure.{RoundedFigure}
 use Rattle.answer.specs.Outcome.{answered, shownRounded}
-use Rattle.answer.specs.Marks.{exact}
 use Rattle.rounding.specs.Fraction.{atMost}
-use Rattle.analyser.specs.Reading.{amount, upTo, goodMethod, converted, measured}
+use Rattle.analyser.specs.Reading.{amount, upTo, goodMethod, noParts, converted, measured}
 use Rattle.analyser.specs.Internal.{Scaled}
 use Rattle.analyser.proofs.Order.{le-is}
 use Rattle.analyser.proofs.Admitted.{up-to-amount, ceiling-is, limit-is, most-parts, rounded-most}
@@ -69,7 +68,7 @@ returns-3 c =
     rw (good (i .before .before), within i)
     (e ∙ ap (λ (p : Rounded). shownRounded (answered p)) (parts w), omega (arith, ap value e, ap (λ (p : Rounded). p .value) (w .whole-parts .ensures), rounded-most _ (scaled i .most)))
 
-none : (c : tie.Else3) → let a = start (c .before .before) .args in record { value = 0; mark = exact } ≡ converted (a .factor * 2 ^ a .twos) (a .method) (a .x)
+none : (c : tie.Else3) → let a = start (c .before .before) .args in noParts ≡ converted (a .factor * 2 ^ a .twos) (a .method) (a .x)
 unfolding converted
 none c = rw (limit (c .before .before) ∙ c .if3 .left)
 

@@ -8,6 +8,7 @@ use mir.Facts.{toZ-ofZ}
 use Rattle.answer.specs.declared.Rounded.{Rounded}
 use Rattle.answer.specs.Outcome.{refused, answered}
 use Rattle.elements.specs.Internal.{AtMost200}
+use Rattle.blend.specs.declared.Limits.{Limits}
 use Rattle.blend.specs.Blend.{shownLimits}
 use Rattle.blend.proofs.Masses.{mass-most}
 use Rattle.blend.proofs.Told.{pairOf, limits-refused, limits-answered}
@@ -55,14 +56,19 @@ rate-of-requires-2 c κs =
     let l = z .before .before .before .before .before in
     (light z, omega (arith, sized z, known z .1), l .fuel-limits-at .ensures .1 .0 .1)
 
+abbrev shown : Rounded → Rounded → Limits
+shown x y = shownLimits (answered (record { lower = x; upper = y }))
+
+-- both rates are handed on, each with its mark
+handed : (c : tie.After-limits-of) → c .limits-of .result ≡ shown (c .before .before .rate-of .result) (c .before .rate-of2 .result)
+handed c = c .limits-of .ensures
+
 returns-2 : tie.Need-returns-2
 unfolding massConcentration
 returns-2 c =
     let u = c .before in
     let z = u .before .before in
-    rw (pair (z .before .before))
-    (c .limits-of .ensures
-    ∙ ap₂ (λ (x y : Rounded). shownLimits (answered (record { lower = x; upper = y }))) (u .before .rate-of .ensures ∙ rates z _) (u .rate-of2 .ensures ∙ rates z _))
+    rw (pair (z .before .before)) (handed c ∙ ap₂ shown (u .before .rate-of .ensures ∙ rates z _) (u .rate-of2 .ensures ∙ rates z _))
 
 pub mass-concentration-spec : {M : Type 1} → statement M
 mass-concentration-spec =

@@ -38,8 +38,8 @@ returns-2 c =
     let p = parts (c .before) in
     answer _ _ _ (round-only (n (c .before)) (d (c .before)) _ _ (omega arith) (record { low = omega arith; high = omega arith }) (is-exact (omega arith)))
 
-sub-if3 : tie.Need-sub-if3
-sub-if3 c = omega (arith, parts (c .before))
+sub-missing : tie.Need-sub-missing
+sub-missing c = omega (arith, parts (c .before))
 
 add-t8 : tie.Need-add-t8
 add-t8 c =
@@ -58,4 +58,4 @@ returns-4 c =
     answer _ _ _ (round-only (n (c .before .before)) (d (c .before .before)) _ _ (omega arith) (record { low = omega arith; high = omega arith }) (is-lowered (omega arith)))
 
 pub round-div-spec : {M : Type 1} → statement M
-round-div-spec = tie.close (tie.spec returns divide-requires returns-2 sub-if3 add-t8 returns-3 returns-4)
+round-div-spec = tie.close (tie.spec returns divide-requires returns-2 sub-missing add-t8 returns-3 returns-4)
