@@ -1,7 +1,7 @@
 // The analyser's readings at their edges, and its methods.
 use crate::show;
 use crate::show_mark;
-use crate::show_refusal;
+use crate::show_named;
 use analyser::Method;
 use analyser::Reading;
 use analyser::parts_of;
@@ -21,16 +21,11 @@ fn method_of(limit: f64, ceiling: f64) -> Method {
 }
 
 fn show_parts(name: &[u8], answer: RoundedFigure) {
-    show(name);
-    show(b": ");
-    let refusal = answer.refusal;
-    if 0 < refusal.number {
-        show_refusal(refusal);
-        return;
+    if show_named(name, answer.refusal) {
+        io::print_decimal(STDOUT_FILENO, answer.value);
+        show_mark(answer.mark);
+        show(b"\n");
     }
-    io::print_decimal(STDOUT_FILENO, answer.value);
-    show_mark(answer.mark);
-    show(b"\n");
 }
 
 // By a method that takes every percentage.
@@ -62,7 +57,7 @@ fn show_method(name: &[u8], limit: f64, ceiling: f64) {
     show_parts(name, parts_of(method_of(limit, ceiling), Reading::Ppm(2.0)));
 }
 
-fn readings() {
+fn percentages() {
     show(b"\nanalyser readings\n");
     show_percent(b"4.54 %", 4.54);
     show_percent(b"100 %", 100.0);
@@ -77,6 +72,9 @@ fn readings() {
     show_percent(b"infinity", infinity());
     show_percent(b"minus infinity", -infinity());
     show_percent(b"zero", 0.0);
+}
+
+fn counts() {
     show_ppm(b"2.5 ppm", 2.5);
     show_ppm(b"0.5 ppm", 0.5);
     show_ppm(b"0.49999999999999994 ppm", 0.49999999999999994);
@@ -119,6 +117,7 @@ fn methods() {
 
 // The readings and the methods.
 pub fn show_readings() {
-    readings();
+    percentages();
+    counts();
     methods();
 }

@@ -1,8 +1,8 @@
 // What the source documents print for these formulas, beside what the rules here give; docs/DECISIONS.md says why some differ.
-use crate::bonds_of;
-use crate::fuel;
+use crate::points::bonds_of;
+use crate::points::fuel;
+use crate::points::show_bonds;
 use crate::show;
-use crate::show_bonds;
 use crate::show_fuel;
 use crate::show_limits;
 use crate::show_rounded;
