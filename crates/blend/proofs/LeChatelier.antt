@@ -1,5 +1,5 @@
 -- Le Chatelier's limit over entries goes by their total and the sum of their weights alone, and is the limit of the blend that holds those.
-use mathlib.Core.Path.{_≡_, refl, sym, ap, _∙_}
+use mathlib.Core.Path.{_≡_, refl, ap}
 use mathlib.Core.Bool.{Bool, true, false}
 use mathlib.Core.List.{[], _∷_}
 use Prim.Native.Nat.{ℕ, _*_, _≤_, _<_}

@@ -88,14 +88,16 @@ pub data Question : Type 0 where
   -- both limits at a temperature in hundredths of a degree, or with none named
   limits : Option ℤ → Question
 
+-- both limits, of each an A
 pub record LimitPair (A : Type 0) : Type 0 where
   pub lower : A
   pub upper : A
 
--- what a question is answered with where A is told of each fraction: its figure, ℕ, or its figure with its mark, `Rounded`
+-- what a question is answered with where an A is told of each exact fraction: ℕ, its figure, or `Rounded`, its figure with its mark
 abbrev pub ToldAs : Type 0 → Question → Type 0
 ToldAs A (limits t) = LimitPair A
 
+-- by what is told of a fraction
 module _ {A : Type 0} (tell : Fraction → A) where
   -- V / Σ (v / limit) at t, where v / limit is v (aβ + b) / 100; in hundredths of a percent
   unfoldable pub blendLimit : Side → Blend → ℕ → A

@@ -1,5 +1,5 @@
 -- Marks: what the mark of a number in the place of a fraction says, that no other mark says it, and that it goes by the fraction's value alone.
-use mathlib.Core.Path.{_≡_, refl, sym, ap, _∙_}
+use mathlib.Core.Path.{_≡_, refl, ap}
 use mathlib.Core.Bool.{Bool, true, false, cond}
 use Prim.Native.Nat.{ℕ, _*_, _<_}
 use native.Mathlib.Nat.{eq-of-mul-eq-mul-right, mul-lt-mul-of-pos-right, lt-of-mul-lt-mul-right}

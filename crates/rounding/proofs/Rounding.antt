@@ -11,7 +11,6 @@ use borrow.Author.Tests.{ltb-true}
 use Rattle.answer.specs.declared.Rounded.{Rounded}
 use Rattle.answer.specs.declared.RoundedSigned.{RoundedSigned}
 use Rattle.answer.specs.Outcome.{noFigure}
-use Rattle.answer.specs.Marks.{exact}
 use Rattle.rounding.specs.Round.{roundedValue, markOf, roundDiv, roundedValueℤ, roundDivℤ}
 use Rattle.rounding.specs.Rounds.{Nearest, Marked, Rounds, Roundsℤ}
 use Rattle.rounding.proofs.Marks.{marked, marked-only, mark-alike}

@@ -6,7 +6,7 @@ use Rattle.answer.specs.declared.Rounded.{Rounded}
 use Rattle.answer.specs.declared.RoundedSigned.{RoundedSigned}
 use Rattle.answer.specs.Outcome.{noFigure}
 use Rattle.answer.specs.Marks.{exact, raised, lowered}
-use Rattle.rounding.specs.Round.{roundedValue, roundDiv, roundDivℤ}
+use Rattle.rounding.specs.Round.{roundDiv, roundDivℤ}
 
 -- (r − 1/2) d ≤ n < (r + 1/2) d
 pub record Nearest (n d r : ℕ) : Type 0 where
