@@ -44,12 +44,12 @@ enum {
     JLW_BLEND_OUT_OF_BOUNDS = 28      /* numbers outside the bounds below */
 };
 
-/* The marks: what rounding did to a figure. A figure is rounded once, a half up, and its mark compares it with the exact value that was rounded.
-   With a refusal a mark is 0, which then says nothing. */
+/* The marks: what rounding did to a figure. A figure is rounded once, a half away from zero, and its mark compares its size with that of the exact value that
+   was rounded. With a refusal a mark is 0, which then says nothing. */
 enum {
     JLW_EXACT = 0,  /* the figure is the exact value */
-    JLW_RAISED = 1, /* the figure is above the exact value */
-    JLW_LOWERED = 2 /* the figure is below the exact value */
+    JLW_RAISED = 1, /* its size exceeds that of the exact value */
+    JLW_LOWERED = 2 /* its size is below that of the exact value */
 };
 
 /* No text of jlw_write_formula is longer: out_len of this is always enough. */
@@ -107,7 +107,7 @@ jlw_limits jlw_fuel_limits(const uint8_t *text, size_t text_len);
 /* The same at a temperature: CH4 at JLW_FIT_TEMPERATURE 454, raised, and 2732, lowered. Refusal 10 outside 0.00 to 200.00, after the fuel's. */
 jlw_limits jlw_fuel_limits_at(const uint8_t *text, size_t text_len, int64_t temperature);
 
-/* The mass concentrations of a fuel at both limits in 0.01 g/m3, for CH4 at 134.00 1983 and 14841; refusals as for limits at a temperature.
+/* The mass concentrations of a fuel at both limits in 0.01 g/m3, for CH4 at 134.00 1983, raised, and 14841, lowered; refusals as for limits at a temperature.
    They are worked from the limits as answered, and the marks speak of this last rounding only, as if those limits were exact. */
 jlw_limits jlw_mass_concentration(const uint8_t *text, size_t text_len, int64_t temperature);
 

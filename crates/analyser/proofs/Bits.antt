@@ -5,7 +5,6 @@ use Prim.Native.Nat.{ℕ, zero, suc, _+_, _-_, _*_, _/_, _%_, _^_, _≤_, _<_}
 use native.Mathlib.Nat.{mul-comm, mul-assoc, mul-left-comm, one-mul, mul-one, mul-le-mul-left, mul-le-mul-right, le-of-lt, le-of-eq, le-trans, lt-of-lt-of-le, lt-of-le-of-lt, lt-of-not-le, lt-irrefl, mod-lt, mul-pos}
 use native.Mathlib.Decide.{decLt}
 use native.Mathlib.Omega.{arith}
-use borrow.Author.Tests.{eqb-true, eqb-false}
 use lib.Dec.{T, leb, eqb, lit<}
 use lib.Pow.{pow-add, pow-pos, pow-mono, shl-lt, shl-exact, mod-mod-pow}
 use lib.Ieee.{Float, nan, inf, fin, binary64, odd, fits, isNan, ofFields, ofBits, toBits}
@@ -13,14 +12,12 @@ use lib.Ieee.Bits.{ofBits-toBits}
 use lib.Ieee.Digits.{Equals, odd-val}
 use lib.Ieee.Positive.{num, den, den-pos}
 use Rattle.answer.specs.declared.Rounded.{Rounded}
-use Rattle.answer.specs.Marks.{exact, lowered}
 use Rattle.rounding.specs.Round.{roundDiv}
-use Rattle.rounding.specs.Rounds.{Marked, is-exact, is-lowered}
 use Rattle.rounding.specs.Fraction.{whole, _⊠_, rounded}
-use Rattle.rounding.proofs.Rounding.{round-none}
+use Rattle.rounding.proofs.Rounding.{none-alike}
 use Rattle.rounding.proofs.Fractions.{Is, is-over, is-whole, is-times, is-same, at-most-values, rounded-is}
 use Rattle.analyser.specs.Reading.{isAmount, amount}
-use Rattle.analyser.specs.Internal.{Scaled, belowHalf}
+use Rattle.analyser.specs.Internal.{Scaled}
 
 -- what the fields f of the exponent and t of the significand say of x: it is q · 2 ^ j units of 2 ^ −1074
 record Read (f t : ℕ) (x : Float) : Type 0 where
@@ -133,25 +130,23 @@ module _ (x : Float) (factor twos : ℕ) (held : T (fits binary64 x)) (pre : Sca
   q-zero : size ≡ 0 → r .q ≡ 0
   q-zero z = omega (arith, r .bare (omega (arith, z)))
 
-  q-positive : (size ≡ 0 → ⊥) → 0 < r .q
-  q-positive z = go (decLt 0 f)
+  q-positive : 0 < size → 0 < r .q
+  q-positive h = go (decLt 0 f)
     where
       go : Dec (0 < f) → 0 < r .q
       go (yes l) = omega (arith, r .lead l)
-      go (no l) = omega (arith, z, r .bare (omega arith))
+      go (no l) = omega (arith, h, r .bare (omega arith))
 
-  mark-is : (b : Bool) → eqb size 0 ≡ b → Marked (n * 2 ^ e) (2 ^ 1074) 0 (cond b exact lowered)
-  mark-is true h = is-exact (sym (ap (λ (z : ℕ). z * factor * 2 ^ e) (q-zero (eqb-true size 0 h)) ∙ zero-products))
-    where
-      zero-products : 0 * factor * 2 ^ e ≡ 0
-      zero-products = omega arith
-  mark-is false h = is-lowered (mul-pos (mul-pos (q-positive (eqb-false size 0 h)) (pre .scale .positive)) (pow-pos e))
-
-  pub below-half : f + twos < 1012 → belowHalf size ≡ parts
+  pub below-half : f + twos < 1012 → roundDiv size (2 ^ 63) ≡ parts
   below-half h =
       let le : 64 + e ≤ 1074 = omega (arith, r .j-is, pre .scale .small-twos) in
       let lt : 2 * n * 2 ^ e < 2 ^ 1074 = lt-of-lt-of-le (shl-lt 64 e (omega (arith, n-lt))) (pow-mono le) in
-      round-none (n * 2 ^ e) (2 ^ 1074) _ (subst (λ (z : ℕ). z < 2 ^ 1074) (mul-assoc 2 n (2 ^ e)) lt) (mark-is (eqb size 0) refl) ∙ sym (rounded-is in-units)
+      none-alike size (2 ^ 63) (n * 2 ^ e) (2 ^ 1074) (omega arith) (subst (λ (z : ℕ). z < 2 ^ 1074) (mul-assoc 2 n (2 ^ e)) lt)
+      (λ z. ap (λ (q : ℕ). q * factor * 2 ^ e) (q-zero z) ∙ none) (λ l. mul-pos (mul-pos (q-positive l) (pre .scale .positive)) (pow-pos e))
+      ∙ sym (rounded-is in-units)
+    where
+      none : 0 * factor * 2 ^ e ≡ 0
+      none = omega arith
 
   -- from there on the leading bit is there
   module _ (big : 1012 ≤ f + twos) where

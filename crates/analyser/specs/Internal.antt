@@ -1,12 +1,9 @@
 -- What holds inside the conversion, of a unit of factor · 2 ^ twos parts and a reading in it. No public promise cites this file.
 use mathlib.Core.Path.{_≡_}
 use Prim.Native.Nat.{ℕ, _*_, _^_, _≤_, _<_}
-use mathlib.Core.Bool.{cond}
-use lib.Dec.{T, eqb}
+use lib.Dec.{T}
 use lib.Ieee.{Float}
 use lib.Ieee.Positive.{num, den}
-use Rattle.answer.specs.declared.Rounded.{Rounded}
-use Rattle.answer.specs.Marks.{exact, lowered}
 use Rattle.rounding.specs.Fraction.{whole, _⊠_, _⊑_}
 use Rattle.analyser.specs.Reading.{isAmount, amount}
 
@@ -26,7 +23,3 @@ pub record Scaled (x : Float) (factor twos : ℕ) : Type 0 where
   pub scale : Scale factor twos
   pub is-amount : T (isAmount x)
   pub most : whole (factor * 2 ^ twos) ⊠ amount x ⊑ whole 1000000
-
--- less than half a part, of a float whose bits behind the sign's are b: only zero's are 0
-abbrev pub belowHalf : ℕ → Rounded
-belowHalf b = record { value = 0; mark = cond (eqb b 0) exact lowered }

@@ -5,7 +5,7 @@ ghost use lib.Dec.{T};
 ghost use Rattle.answer.specs.Outcome.{shownRounded};
 ghost use Rattle.rounding.specs.Fraction.{rounded, whole, _⊠_};
 ghost use Rattle.analyser.specs.Reading.{isAmount, amount, upTo, goodMethod, measured, overloaded, partsOf};
-ghost use Rattle.analyser.specs.Internal.{Scale, Top, Scaled, belowHalf};
+ghost use Rattle.analyser.specs.Internal.{Scale, Top, Scaled};
 use answer::Rounded;
 use answer::RoundedFigure;
 use answer::answered_rounded;
@@ -23,12 +23,6 @@ pub enum Reading {
     Ppm(f64),
     Overload,
 }
-
-// No parts, exactly.
-const NO_PARTS: Rounded = Rounded {
-    value: 0,
-    mark: answer::EXACT,
-};
 
 // Whether 0 ≤ x ≤ high.
 fn is_up_to(x: f64, high: f64) -> bool
@@ -52,19 +46,6 @@ fn is_good(method: Method, top: f64) -> bool
     false
 }
 
-// Less than half a part: 0, exactly where the bits behind the sign's are 0, else lowered.
-fn below_half(bits: u64) -> Rounded
-    ensures { λ r. ⌜ r ≡ belowHalf bits ⌝ }
-{
-    if bits == 0 {
-        return NO_PARTS;
-    }
-    Rounded {
-        value: 0,
-        mark: answer::LOWERED,
-    }
-}
-
 // x units of factor · 2 ^ twos parts, rounded. By its bits x is significand · 2 ^ (exponent − 1075), or below 2 ^ −1022 where the exponent is 0.
 fn whole_parts(x: f64, factor: u64, twos: u64) -> Rounded
     requires { ⌜ Scaled x factor twos ⌝ }
@@ -73,7 +54,8 @@ fn whole_parts(x: f64, factor: u64, twos: u64) -> Rounded
     let bits = f64::to_bits(x) % 0x8000_0000_0000_0000;
     let exponent = bits / 0x10_0000_0000_0000;
     if exponent + twos < 1012 {
-        return below_half(bits);
+        // Below half a part. So are the bits as a part of 2 ^ 63, and they are 0 for zero alone: both are rounded alike.
+        return round_div(bits, 0x8000_0000_0000_0000);
     }
     let significand = bits % 0x10_0000_0000_0000 + 0x10_0000_0000_0000;
     let shift = 1075 - exponent - twos;
@@ -94,7 +76,7 @@ fn measure(method: Method, x: f64, top: f64, factor: u64, twos: u64) -> RoundedF
     if method.limit <= x {
         return answered_rounded(whole_parts(x, factor, twos));
     }
-    answered_rounded(NO_PARTS)
+    answered_rounded(round_div(0, 1))
 }
 
 // The answer to an overload, whose method is in parts per million.

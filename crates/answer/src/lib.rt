@@ -27,13 +27,11 @@ pub struct Temperature {
 }
 
 // A figure that was rounded, and its mark: how its size stands to that of the exact fraction.
-#[repr(C)]
 pub struct Rounded {
     pub value: u64,
     pub mark: u64,
 }
 
-#[repr(C)]
 pub struct RoundedSigned {
     pub value: i64,
     pub mark: u64,

@@ -19,14 +19,14 @@ corrected : (s : Side) (b : Blend) (y d n m : ℕ) → 0 < sumOf s b → 0 < d �
     → rounded (whole 100 ⊠ ((whole (b .total) ⊘ (held s b ⊘ whole 100)) ⊠ (y over d))) ≡ roundDiv n m
 corrected s b y d n m p h k e = rounded-is (is-same (is-times (is-whole 100) (is-times (from-sums-is s b p) (is-over y d h))) k e)
 
-pub lower-figure : (b : Blend) (t : ℕ) → 0 < b .lower → roundDiv (25000 * b .total * (127700 - t)) (313 * b .lower) ≡ blendLimit rounded lower b t
+pub lower-figure : (b : Blend) (t : ℕ) → 0 < b .lower → roundDiv (25000 * b .total * (127700 - t)) (313 * b .lower) ≡ blendLimit lower b t
 unfolding blendLimit correction
 lower-figure b t p = sym (go (127700 - t))
   where
     go : (y : ℕ) → rounded (whole 100 ⊠ ((whole (b .total) ⊘ (held lower b ⊘ whole 100)) ⊠ (y over 125200))) ≡ roundDiv (25000 * b .total * y) (313 * b .lower)
     go y = corrected lower b y 125200 (25000 * b .total * y) (313 * b .lower) p (omega arith) (omega arith) (omega arith)
 
-pub upper-figure : (b : Blend) (t : ℕ) → 0 < b .upper → roundDiv (50000 * b .total * (t + 78700)) (203 * b .upper) ≡ blendLimit rounded upper b t
+pub upper-figure : (b : Blend) (t : ℕ) → 0 < b .upper → roundDiv (50000 * b .total * (t + 78700)) (203 * b .upper) ≡ blendLimit upper b t
 unfolding blendLimit correction
 upper-figure b t p = sym (go (t + 78700))
   where
@@ -39,13 +39,13 @@ unfolding roundDiv roundedValue
 small n d h l = round-mono n d 10000 1 h (omega arith) (omega arith)
 
 module _ (b : Blend) (t : ℕ) (w : Within b) (some : 0 < b .total) (warm : t ≤ 20000) where
-  pub lower-most : blendLimit rounded lower b t .value ≤ 10000
+  pub lower-most : blendLimit lower b t .value ≤ 10000
   lower-most =
       let cold : 127700 - t ≤ 127700 = omega arith in
       let m = mul-le-mul-left (b .total) cold in
       rw (← lower-figure b t (omega arith)) (small _ _ (omega arith) (omega arith))
 
-  pub upper-most : blendLimit rounded upper b t .value ≤ 10000
+  pub upper-most : blendLimit upper b t .value ≤ 10000
   upper-most =
       let hot : t + 78700 ≤ 98700 = omega arith in
       let m = mul-le-mul-left (b .total) hot in

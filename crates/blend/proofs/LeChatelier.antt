@@ -1,5 +1,5 @@
 -- Le Chatelier's limit over entries goes by their total and the sum of their weights alone, and is the limit of the blend that holds those.
-use mathlib.Core.Path.{_≡_, refl, ap}
+use mathlib.Core.Path.{_≡_, refl, sym, ap, _∙_}
 use mathlib.Core.Bool.{Bool, true, false}
 use mathlib.Core.List.{[], _∷_}
 use Prim.Native.Nat.{ℕ, _*_, _≤_, _<_}
@@ -8,14 +8,14 @@ use native.Mathlib.Omega.{arith}
 use lib.Dec.{eqb}
 use lib.IntN.{natAbs}
 use borrow.Author.Tests.{eqb-true, eqb-false, eq-eqb, ne-eqb}
-use Rattle.rounding.specs.Fraction.{Fraction, _over_, whole, _⊠_, _⊘_}
-use Rattle.rounding.proofs.Fractions.{Is, is-over, is-whole, is-plus, is-times, is-by, is-same, equal-is, ByValue}
+use Rattle.rounding.specs.Fraction.{Fraction, _over_, whole, _⊠_, _⊘_, rounded}
+use Rattle.rounding.proofs.Fractions.{Is, is-over, is-whole, is-plus, is-times, is-by, is-same, rounded-is}
 use Rattle.blend.specs.Limit.{Side, lower, upper}
 use Rattle.blend.specs.declared.Blend.{Blend}
 use Rattle.blend.specs.Temperature.{meant, correction, OneAtFit}
 use Rattle.blend.specs.Fuel.{quarters}
 use Rattle.blend.specs.Blend.{Question, limits, sumOf, unit, held, blendLimit}
-use Rattle.blend.specs.Model.{Entry, Entries, sum, total, fuelLimit, shares, leChatelier, limitAt, limitAs, modelTells, modelAsksAs}
+use Rattle.blend.specs.Model.{Entry, Entries, sum, total, fuelLimit, shares, leChatelier, limitAt, roundedLimit, modelTells, modelAsksMarked}
 use Rattle.blend.proofs.Weights.{unit-positive, limit-is, weight-positive}
 use Rattle.blend.proofs.Sums.{weighs, blendOf, Times}
 
@@ -69,39 +69,38 @@ module _ (s : Side) where
       let hundredth = is-same {m = sumOf s b} {e = 100 * unit s} (is-by sum-is (is-whole 100) (omega arith)) (omega arith) (omega arith) in
       is-same (is-by (is-whole (b .total)) hundredth h) h (omega arith)
 
--- one value is told alike
-module _ {A : Type 0} (tell : Fraction → A) (by-value : ByValue tell) where
-  module _ (s : Side) (t : ℕ) where
-    pub same-at : {f g : Fraction} {n d : ℕ} → Is f n d → Is g n d → tell (whole 100 ⊠ (f ⊠ correction s t)) ≡ tell (whole 100 ⊠ (g ⊠ correction s t))
-    same-at i j = by-value _ _ (equal-is (is-times (is-whole 100) (is-times i (correction-is s t))) (is-times (is-whole 100) (is-times j (correction-is s t))))
+  -- one value, one figure and mark
+  module _ (t : ℕ) where
+    pub same-at : {f g : Fraction} {n d : ℕ} → Is f n d → Is g n d → rounded (whole 100 ⊠ (f ⊠ correction s t)) ≡ rounded (whole 100 ⊠ (g ⊠ correction s t))
+    same-at i j = rounded-is (is-times (is-whole 100) (is-times i (correction-is s t))) ∙ sym (rounded-is (is-times (is-whole 100) (is-times j (correction-is s t))))
 
-    pub blend-limit : (es : Entries) → 0 < total es → blendLimit tell s (blendOf es) t ≡ limitAs tell s es t
-    unfolding blendLimit limitAs limitAt
+    pub blend-limit : (es : Entries) → 0 < total es → blendLimit s (blendOf es) t ≡ roundedLimit s es t
+    unfolding blendLimit roundedLimit limitAt
     blend-limit es h =
-        let w : 0 < sum (weighs s) es = omega (arith, total-weighs s es) in
-        same-at (rw (sum-held s es) at (from-sums-is s (blendOf es) (rw (sum-held s es) w))) (le-chatelier-is s es h)
+        let w : 0 < sum (weighs s) es = omega (arith, total-weighs es) in
+        same-at (rw (sum-held s es) at (from-sums-is (blendOf es) (rw (sum-held s es) w))) (le-chatelier-is es h)
 
-    limit-times : (k : ℕ) (es fs : Entries) → Times k es fs → 0 < total es → 0 < total fs → limitAs tell s es t ≡ limitAs tell s fs t
-    unfolding limitAs limitAt
+    limit-times : (k : ℕ) (es fs : Entries) → Times k es fs → 0 < total es → 0 < total fs → roundedLimit s es t ≡ roundedLimit s fs t
+    unfolding roundedLimit limitAt
     limit-times k es fs x h g =
-        let j = le-chatelier-is s fs g in
-        same-at (is-same (le-chatelier-is s es h) (j .pos) (rw (x .total-times, x .weight-times s) (omega arith))) j
+        let j = le-chatelier-is fs g in
+        same-at (is-same (le-chatelier-is es h) (j .pos) (rw (x .total-times, x .weight-times s) (omega arith))) j
 
-  -- entries with k times the figures of others answer as those
-  module _ (k : ℕ) (es fs : Entries) (x : Times k es fs) where
-    tells-times : 0 < total es → 0 < total fs → (q : Question) → modelTells tell es q ≡ modelTells tell fs q
-    unfolding modelTells
-    tells-times h g (limits t) = rw (limit-times lower (natAbs (meant t)) k es fs x h g, limit-times upper (natAbs (meant t)) k es fs x h g)
+-- entries with k times the figures of others answer as those
+module _ (k : ℕ) (es fs : Entries) (x : Times k es fs) where
+  tells-times : 0 < total es → 0 < total fs → (q : Question) → modelTells es q ≡ modelTells fs q
+  unfolding modelTells
+  tells-times h g (limits t) = rw (limit-times lower (natAbs (meant t)) k es fs x h g, limit-times upper (natAbs (meant t)) k es fs x h g)
 
-    pub asks-times : 0 < k → (q : Question) → modelAsksAs tell es q ≡ modelAsksAs tell fs q
-    unfolding modelAsksAs
-    asks-times p q = go (eqb (total fs) 0) refl
-      where
-        go : (b : Bool) → eqb (total fs) 0 ≡ b → modelAsksAs tell es q ≡ modelAsksAs tell fs q
-        go true e =
-            let z = ap (λ (n : ℕ). k * n) (eqb-true (total fs) 0 e) in
-            rw (e, eq-eqb (total es) 0 (omega (arith, x .total-times)))
-        go false e =
-            let g : 0 < total fs = pos-of-ne-zero (eqb-false (total fs) 0 e) in
-            let h : 0 < total es = rw (x .total-times) (mul-pos p g) in
-            rw (e, ne-eqb (total es) 0 (λ (z : total es ≡ 0). omega arith)) (tells-times h g q)
+  pub asks-times : 0 < k → (q : Question) → modelAsksMarked es q ≡ modelAsksMarked fs q
+  unfolding modelAsksMarked
+  asks-times p q = go (eqb (total fs) 0) refl
+    where
+      go : (b : Bool) → eqb (total fs) 0 ≡ b → modelAsksMarked es q ≡ modelAsksMarked fs q
+      go true e =
+          let z = ap (λ (n : ℕ). k * n) (eqb-true (total fs) 0 e) in
+          rw (e, eq-eqb (total es) 0 (omega (arith, x .total-times)))
+      go false e =
+          let g : 0 < total fs = pos-of-ne-zero (eqb-false (total fs) 0 e) in
+          let h : 0 < total es = rw (x .total-times) (mul-pos p g) in
+          rw (e, ne-eqb (total es) 0 (λ (z : total es ≡ 0). omega arith)) (tells-times h g q)

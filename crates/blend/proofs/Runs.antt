@@ -1,5 +1,5 @@
 -- The blends follow the model: each holds the sums of its entries, within the bounds, and took in admitted fuels alone.
-use mathlib.Core.Path.{_≡_, refl, subst}
+use mathlib.Core.Path.{_≡_, refl, ap, subst}
 use mathlib.Core.Bool.{Bool, true, false}
 use mathlib.Core.List.{List, [], _∷_, _++_}
 use Prim.Native.Nat.{ℕ, _+_, _≤_, _<_}
@@ -10,17 +10,15 @@ use lib.IntN.{natAbs}
 use borrow.Author.Tests.{ltb-false, eqb-false}
 use Rattle.answer.specs.Numbers.{totalTooLarge}
 use Rattle.answer.specs.Outcome.{Outcome, refused, answered}
-use Rattle.rounding.specs.Fraction.{Fraction, figure}
-use Rattle.rounding.proofs.Fractions.{ByValue, figure-by-value}
 use Rattle.elements.specs.declared.Atoms.{Atoms}
 use Rattle.blend.specs.Limit.{lower, upper}
 use Rattle.blend.specs.declared.Blend.{Blend}
 use Rattle.blend.specs.Temperature.{meant}
 use Rattle.blend.specs.Fuel.{Fuel, admitting, quarters}
-use Rattle.blend.specs.Blend.{emptyBlend, within, withFuel, taking, adding, together, joining, Question, limits, telling, askingAs}
+use Rattle.blend.specs.Blend.{emptyBlend, within, withFuel, taking, adding, together, joining, Question, limits, telling, askingMarked, figuresOf, asking}
 use Rattle.blend.specs.Internal.{Within}
 use Rattle.blend.specs.Calls.{Call, answerTo}
-use Rattle.blend.specs.Model.{entry, Entries, sum, total, modelAdds, modelJoins, modelTells, modelAsksAs, model}
+use Rattle.blend.specs.Model.{entry, Entries, sum, total, modelAdds, modelJoins, modelTells, modelAsksMarked, modelAsks, model}
 use Rattle.blend.specs.Claims.{keeper, blends, entries, blendAnswers, modelAnswers}
 use Rattle.blend.proofs.Weights.{weight-least, weight-most}
 use Rattle.blend.proofs.Bounds.{within-test}
@@ -86,22 +84,24 @@ joins-alike b c es fs h k =
     (refuse-alike totalTooLarge 0 (ltb 1000000 (total es + total fs)) (λ n. answering (both-represent es fs (h .fit) (k .fit) fuels n)))
 
 -- ASKING
-module _ {A : Type 0} (tell : Fraction → A) (by-value : ByValue tell) where
-  tells-alike : (es : Entries) → 0 < total es → (q : Question) → telling tell (blendOf es) q ≡ modelTells tell es q
-  unfolding telling modelTells
-  tells-alike es v (limits t) = rw (blend-limit tell by-value lower (natAbs (meant t)) es v, blend-limit tell by-value upper (natAbs (meant t)) es v)
+tells-alike : (es : Entries) → 0 < total es → (q : Question) → telling (blendOf es) q ≡ modelTells es q
+unfolding telling modelTells
+tells-alike es v (limits t) = rw (blend-limit lower (natAbs (meant t)) es v, blend-limit upper (natAbs (meant t)) es v)
 
-  asks-alike : (b : Blend) (es : Entries) → Represents b es → (q : Question) → askingAs tell b q ≡ modelAsksAs tell es q
-  unfolding askingAs modelAsksAs
-  asks-alike b es h q = go (eqb (total es) 0) refl
-    where
-      go : (z : Bool) → eqb (total es) 0 ≡ z → askingAs tell b q ≡ modelAsksAs tell es q
-      go true e = rw (h .is, within-test (blendOf es) (h .fit), e)
-      go false e = rw (h .is, within-test (blendOf es) (h .fit), e) (tells-alike es (pos-of-ne-zero (eqb-false (total es) 0 e)) q)
+marked-alike : (b : Blend) (es : Entries) → Represents b es → (q : Question) → askingMarked b q ≡ modelAsksMarked es q
+unfolding askingMarked modelAsksMarked
+marked-alike b es h q = go (eqb (total es) 0) refl
+  where
+    go : (z : Bool) → eqb (total es) 0 ≡ z → askingMarked b q ≡ modelAsksMarked es q
+    go true e = rw (h .is, within-test (blendOf es) (h .fit), e)
+    go false e = rw (h .is, within-test (blendOf es) (h .fit), e) (tells-alike es (pos-of-ne-zero (eqb-false (total es) 0 e)) q)
+
+asks-alike : (b : Blend) (es : Entries) → Represents b es → (q : Question) → asking b q ≡ modelAsks es q
+asks-alike b es h q = ap (figuresOf q) (marked-alike b es h q)
 
 -- EVERY LIST OF CALLS
 follows : Follows Represents keeper model
-follows = record { adds = adds-alike; joins = joins-alike; asks = asks-alike figure figure-by-value }
+follows = record { adds = adds-alike; joins = joins-alike; asks = asks-alike }
 
 module _ (calls : List Call) where
   represents : (i : ℕ) → Represents (blends calls i) (entries calls i)
@@ -113,8 +113,8 @@ module _ (calls : List Call) where
   pub next-alike : (c : Call) → answerTo keeper (blends calls) c ≡ answerTo model (entries calls) c
   next-alike c = answer-alike Represents keeper model follows (blends calls) (entries calls) represents c
 
-  pub by-model : {A : Type 0} (tell : Fraction → A) → ByValue tell → (i : ℕ) (q : Question) → askingAs tell (blends calls i) q ≡ modelAsksAs tell (entries calls i) q
-  by-model tell by-value i q = asks-alike tell by-value (blends calls i) (entries calls i) (represents i) q
+  pub by-model : (i : ℕ) (q : Question) → askingMarked (blends calls i) q ≡ modelAsksMarked (entries calls i) q
+  by-model i q = marked-alike (blends calls i) (entries calls i) (represents i) q
 
   pub in-bounds : (i : ℕ) → within (blends calls i) ≡ true
   in-bounds i = rw (represents i .is) (within-test (blendOf (entries calls i)) (represents i .fit))

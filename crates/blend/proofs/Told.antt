@@ -36,6 +36,9 @@ module _ (b : Blend) (o : Outcome Blend) (r : Blended) (e : r ≡ shownBlend b o
 abbrev pub pairOf : Limits → LimitPair Rounded
 pairOf r = record { lower = record { value = r .lower; mark = r .«lower_mark» }; upper = record { value = r .upper; mark = r .«upper_mark» } }
 
+abbrev pub shownPair : Rounded → Rounded → Limits
+shownPair lower upper = shownLimits (answered (record { lower = lower; upper = upper }))
+
 module _ (o : Outcome (LimitPair Rounded)) (r : Limits) (e : r ≡ shownLimits o) where
   pub limits-refused : 0 < r .refusal .number → o ≡ refused (r .refusal)
   limits-refused l = rw e (told-refused o (rw e at l))

@@ -7,7 +7,7 @@ use lib.IntN.{ℤ, natAbs}
 use Rattle.answer.specs.Numbers.{totalTooLarge, blendEmpty, gasTemperatureOutside, blendOutOfBounds}
 use Rattle.answer.specs.Outcome.{Outcome, answered, refuse, refusalOf, valueOf, andThen, noFigure}
 use Rattle.answer.specs.declared.Rounded.{Rounded}
-use Rattle.rounding.specs.Fraction.{Fraction, _over_, whole, _⊠_, _⊘_, rounded, figure}
+use Rattle.rounding.specs.Fraction.{Fraction, _over_, whole, _⊠_, _⊘_, rounded}
 use Rattle.elements.specs.declared.Atoms.{Atoms}
 use Rattle.blend.specs.declared.Blend.{Blend}
 use Rattle.blend.specs.declared.Blended.{Blended}
@@ -93,40 +93,41 @@ pub record LimitPair (A : Type 0) : Type 0 where
   pub lower : A
   pub upper : A
 
--- what a question is answered with where an A is told of each exact fraction: ℕ, its figure, or `Rounded`, its figure with its mark
-abbrev pub ToldAs : Type 0 → Question → Type 0
-ToldAs A (limits t) = LimitPair A
+-- what a question is answered with, each rounded figure with its mark
+abbrev pub ToldMarked : Question → Type 0
+ToldMarked (limits t) = LimitPair Rounded
 
--- by what is told of a fraction
-module _ {A : Type 0} (tell : Fraction → A) where
-  -- V / Σ (v / limit) at t, where v / limit is v (aβ + b) / 100; in hundredths of a percent
-  unfoldable pub blendLimit : Side → Blend → ℕ → A
-  blendLimit s b t = tell (whole 100 ⊠ ((whole (b .total) ⊘ (held s b ⊘ whole 100)) ⊠ correction s t))
+-- V / Σ (v / limit) at t, where v / limit is v (aβ + b) / 100; in hundredths of a percent
+unfoldable pub blendLimit : Side → Blend → ℕ → Rounded
+blendLimit s b t = rounded (whole 100 ⊠ ((whole (b .total) ⊘ (held s b ⊘ whole 100)) ⊠ correction s t))
 
-  abbrev pub limitsAt : Blend → ℕ → LimitPair A
-  limitsAt b t = record { lower = blendLimit lower b t; upper = blendLimit upper b t }
+abbrev pub limitsAt : Blend → ℕ → LimitPair Rounded
+limitsAt b t = record { lower = blendLimit lower b t; upper = blendLimit upper b t }
 
-  -- of a blend that is not empty
-  unfoldable pub telling : Blend → (q : Question) → Outcome (ToldAs A q)
-  telling b (limits t) = refuse gasTemperatureOutside 0 (gasOutside (meant t)) (answered (limitsAt b (natAbs (meant t))))
+-- of a blend that is not empty
+unfoldable pub telling : Blend → (q : Question) → Outcome (ToldMarked q)
+telling b (limits t) = refuse gasTemperatureOutside 0 (gasOutside (meant t)) (answered (limitsAt b (natAbs (meant t))))
 
-  unfoldable pub askingAs : Blend → (q : Question) → Outcome (ToldAs A q)
-  askingAs b q =
-      refuse blendOutOfBounds 0 (not (within b))
-      (refuse blendEmpty 0 (eqb (b .total) 0)
-      (telling b q))
+unfoldable pub askingMarked : Blend → (q : Question) → Outcome (ToldMarked q)
+askingMarked b q =
+    refuse blendOutOfBounds 0 (not (within b))
+    (refuse blendEmpty 0 (eqb (b .total) 0)
+    (telling b q))
 
--- THE FIGURES alone, of which the claim speaks; and with their marks
+-- THE FIGURES of an answer, without the marks: the claim speaks of these
 abbrev pub Told : Question → Type 0
-Told q = ToldAs ℕ q
+Told (limits t) = LimitPair ℕ
+
+abbrev pub figuresIn : (q : Question) → ToldMarked q → Told q
+figuresIn (limits t) l = record { lower = l .lower .value; upper = l .upper .value }
+
+abbrev pub figuresOf : (q : Question) → Outcome (ToldMarked q) → Outcome (Told q)
+figuresOf q o = andThen o (λ x. answered (figuresIn q x))
 
 abbrev pub asking : Blend → (q : Question) → Outcome (Told q)
-asking b q = askingAs figure b q
+asking b q = figuresOf q (askingMarked b q)
 
-abbrev pub askingMarked : Blend → (q : Question) → Outcome (ToldAs Rounded q)
-askingMarked b q = askingAs rounded b q
-
--- both limits as they are answered: with a refusal all is 0
+-- BOTH LIMITS as they are answered: with a refusal all is 0
 abbrev pub noLimits : LimitPair Rounded
 noLimits = record { lower = noFigure; upper = noFigure }
 

@@ -2,24 +2,15 @@
 use mathlib.Core.Path.{_≡_}
 use mathlib.Core.List.{List, List·Permᴰ}
 use Prim.Native.Nat.{ℕ, _≤_, _<_}
-use Rattle.answer.specs.Outcome.{answered, andThen}
-use Rattle.answer.specs.declared.Rounded.{Rounded}
-use Rattle.blend.specs.declared.Blend.{Blend}
-use Rattle.blend.specs.Blend.{Question, limits, ToldAs, Told, asking, askingMarked}
+use Rattle.blend.specs.Blend.{Question, askingMarked}
 use Rattle.blend.specs.Calls.{Call}
 use Rattle.blend.specs.Model.{Entries, total, modelAsksMarked}
 use Rattle.blend.specs.Claims.{blends, entries, scaled, Different, Route}
 
--- the figures alone
-abbrev pub valuesIn : (q : Question) → ToldAs Rounded q → Told q
-valuesIn (limits t) l = record { lower = l .lower .value; upper = l .upper .value }
-
 pub record MarksAlike (calls : List Call) : Type 0 where
-  -- the figures beside the marks are those of which the claim speaks
-  pub values : (b : Blend) (q : Question) → asking b q ≡ andThen (askingMarked b q) (λ x. answered (valuesIn q x))
-  -- every mark is that of the exact fraction over all that the blend took in
+  -- every question is answered, with its marks, by the exact fractions over all that the blend took in
   pub by-entries : (i : ℕ) (q : Question) → askingMarked (blends calls i) q ≡ modelAsksMarked (entries calls i) q
-  -- blends of one list or of two that took in the same entries, in any order
+  -- blends of one list or of two that took in the same entries, in any order, answer alike
   pub alike : (others : List Call) (i j : ℕ) → List·Permᴰ (entries calls i) (entries others j) →
       (q : Question) → askingMarked (blends calls i) q ≡ askingMarked (blends others j) q
   -- also when all parts of one are multiplied by a whole factor above zero

@@ -6,12 +6,12 @@ use lib.IntN.{natAbs}
 use Rattle.answer.specs.Numbers.{totalTooLarge, blendEmpty, gasTemperatureOutside}
 use Rattle.answer.specs.Outcome.{Outcome, answered, refuse, andThen}
 use Rattle.answer.specs.declared.Rounded.{Rounded}
-use Rattle.rounding.specs.Fraction.{Fraction, whole, _⊞_, _⊠_, _⊘_, rounded, figure}
+use Rattle.rounding.specs.Fraction.{Fraction, whole, _⊞_, _⊠_, _⊘_, rounded}
 use Rattle.elements.specs.declared.Atoms.{Atoms}
 use Rattle.blend.specs.Limit.{Side, lower, upper, limitOf}
 use Rattle.blend.specs.Temperature.{meant, gasOutside, correction}
 use Rattle.blend.specs.Fuel.{Fuel, admitting, quarters}
-use Rattle.blend.specs.Blend.{Question, limits, LimitPair, ToldAs, Told}
+use Rattle.blend.specs.Blend.{Question, limits, LimitPair, ToldMarked, Told, figuresOf}
 use Rattle.blend.specs.Calls.{Keeper}
 
 -- an entry: a fuel, known by its atom counts, and its parts
@@ -43,21 +43,18 @@ shares s (e ∷ es) = (whole (e .parts) ⊘ fuelLimit s (e .fuel)) ⊞ shares s 
 unfoldable pub leChatelier : Side → Entries → Fraction
 leChatelier s es = whole (total es) ⊘ shares s es
 
--- at t, in percent
+-- at t, in percent; and as answered, in hundredths of a percent, rounded once
 unfoldable pub limitAt : Side → Entries → ℕ → Fraction
 limitAt s es t = leChatelier s es ⊠ correction s t
 
--- what is told of it, in hundredths of a percent
-module _ {A : Type 0} (tell : Fraction → A) where
-  unfoldable pub limitAs : Side → Entries → ℕ → A
-  limitAs s es t = tell (whole 100 ⊠ limitAt s es t)
+unfoldable pub roundedLimit : Side → Entries → ℕ → Rounded
+roundedLimit s es t = rounded (whole 100 ⊠ limitAt s es t)
 
-  abbrev pub limitsOf : Entries → ℕ → LimitPair A
-  limitsOf es t = record { lower = limitAs lower es t; upper = limitAs upper es t }
+abbrev pub roundedLimits : Entries → ℕ → LimitPair Rounded
+roundedLimits es t = record { lower = roundedLimit lower es t; upper = roundedLimit upper es t }
 
--- as answered: rounded once
 abbrev pub limitFigure : Side → Entries → ℕ → ℕ
-limitFigure s es t = limitAs figure s es t
+limitFigure s es t = roundedLimit s es t .value
 
 -- THE MODEL
 -- the first of refusals 1 to 4 that applies to the fuel; else 8 if the total and the parts together exceed 1,000,000; else the entry is written at the end
@@ -68,20 +65,16 @@ modelAdds es f v = andThen (admitting f) (λ a. refuse totalTooLarge 0 (ltb 1000
 unfoldable pub modelJoins : Entries → Entries → Outcome Entries
 modelJoins es fs = refuse totalTooLarge 0 (ltb 1000000 (total es + total fs)) (answered (es ++ fs))
 
--- 9 at total 0; else, asked for limits, 10 if the temperature is not admitted; else both limits over the entries at t
-module _ {A : Type 0} (tell : Fraction → A) where
-  unfoldable pub modelTells : Entries → (q : Question) → Outcome (ToldAs A q)
-  modelTells es (limits t) = refuse gasTemperatureOutside 0 (gasOutside (meant t)) (answered (limitsOf tell es (natAbs (meant t))))
+-- 9 at total 0; else, asked for limits, 10 if the temperature is not admitted; else both limits over the entries at t, rounded
+unfoldable pub modelTells : Entries → (q : Question) → Outcome (ToldMarked q)
+modelTells es (limits t) = refuse gasTemperatureOutside 0 (gasOutside (meant t)) (answered (roundedLimits es (natAbs (meant t))))
 
-  unfoldable pub modelAsksAs : Entries → (q : Question) → Outcome (ToldAs A q)
-  modelAsksAs es q = refuse blendEmpty 0 (eqb (total es) 0) (modelTells es q)
+unfoldable pub modelAsksMarked : Entries → (q : Question) → Outcome (ToldMarked q)
+modelAsksMarked es q = refuse blendEmpty 0 (eqb (total es) 0) (modelTells es q)
 
--- their figures, rounded once; and with their marks
+-- without the marks
 abbrev pub modelAsks : Entries → (q : Question) → Outcome (Told q)
-modelAsks es q = modelAsksAs figure es q
-
-abbrev pub modelAsksMarked : Entries → (q : Question) → Outcome (ToldAs Rounded q)
-modelAsksMarked es q = modelAsksAs rounded es q
+modelAsks es q = figuresOf q (modelAsksMarked es q)
 
 abbrev pub model : Keeper Entries
 model = record { adds = modelAdds; joins = modelJoins; asks = modelAsks }

@@ -7,7 +7,6 @@ ghost use Prim.Native.Nat.{_*_, _≤_, _<_};
 ghost use lib.Dec.{leb};
 ghost use Rattle.answer.specs.Outcome.{refused, answered, refusal, unless};
 ghost use Rattle.rounding.specs.Round.{roundDiv};
-ghost use Rattle.rounding.specs.Fraction.{rounded};
 ghost use Rattle.elements.specs.Elements.{each, firstAbove, weightedSum};
 ghost use Rattle.blend.specs.Limit.{lower, upper};
 ghost use Rattle.blend.specs.Temperature.{OneAtFit};
@@ -171,7 +170,7 @@ fn take(b: Blend, fuel: Atoms, parts: u64) -> Blended
 }
 
 // Limits, answered and refused.
-pub fn limits_of(lower: Rounded, upper: Rounded) -> Limits
+pub fn answered_limits(lower: Rounded, upper: Rounded) -> Limits
     ensures { λ r. ⌜ r ≡ shownLimits (answered (record { lower = lower; upper = upper })) ⌝ }
 {
     Limits {
@@ -216,11 +215,11 @@ fn rated(scale: u64, v: u64, factor: u64, divisor: u64, x: u64) -> Rounded
 // Both limits at an admitted temperature, of a blend that is not empty.
 fn limits_from(b: Blend, t: u64) -> Limits
     requires { ⌜ Within b × (0 < b .total) × (t ≤ 20000) ⌝ }
-    ensures { λ r. ⌜ r ≡ shownLimits (answered (limitsAt rounded b t)) ⌝ }
+    ensures { λ r. ⌜ r ≡ shownLimits (answered (limitsAt b t)) ⌝ }
 {
     let lower = rated(25000, b.total, 127700 - t, 313, b.lower);
     let upper = rated(50000, b.total, t + 78700, 203, b.upper);
-    limits_of(lower, upper)
+    answered_limits(lower, upper)
 }
 
 // An empty blend. Of blends that begin empty, and of every list of calls on them, the claims of specs/Claims.antt hold, and of their marks specs/Marks.antt.

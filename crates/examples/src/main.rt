@@ -136,7 +136,9 @@ fn show_mark(mark: u64) {
         show(b" lowered");
         return;
     }
-    show(b" exact");
+    if mark == answer::EXACT {
+        show(b" exact");
+    }
 }
 
 // A figure in hundredths that was rounded.

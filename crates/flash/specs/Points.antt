@@ -63,8 +63,8 @@ sumFrom s [] = s
 sumFrom s (x ∷ xs) = sumFrom (s +ℤ x) xs
 
 -- rounded once to hundredths, with the mark
-abbrev pub rounded : List ℤ → RoundedSigned
-rounded xs = roundDivℤ (sumFrom (pos 0) xs) 1000
+abbrev pub roundedSum : List ℤ → RoundedSigned
+roundedSum xs = roundDivℤ (sumFrom (pos 0) xs) 1000
 
 -- formula (33), with its refusals in their order
 unfoldable pub byBonds : ℕ → Atoms → Bonds → ℤ → Outcome RoundedSigned
@@ -74,11 +74,11 @@ byBonds m a b t =
     (refuse hydrogenDiffers 0 (hydrogenUnbalanced a b)
     (refuseAt noCoefficient (noCoefficientAt m b)
     (refuse boilingPointOutside 0 (boilingOutside t)
-    (answered (rounded (terms m b t)))))))
+    (answered (roundedSum (terms m b t)))))))
 
 -- formula (34)
 unfoldable pub byClass : ℕ → ℤ → Outcome RoundedSigned
 byClass k t =
     refuse unknownMethod 0 (outside (pos 1) (pos 10) (pos k))
     (refuse boilingPointOutside 0 (boilingOutside t)
-    (answered (rounded (classTerms k t))))
+    (answered (roundedSum (classTerms k t))))

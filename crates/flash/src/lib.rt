@@ -216,7 +216,7 @@ fn bond_sum(start: i64, column: [i64; 22], bonds: Bonds) -> i64
 }
 
 // A sum in hundred-thousandths of a degree, rounded once to hundredths.
-fn rounded(sum: i64) -> RoundedTemperature
+fn rounded_sum(sum: i64) -> RoundedTemperature
     ensures { λ r. ⌜ r ≡ shownSum sum ⌝ }
 {
     answered_rounded_temperature(round_div_signed(sum, 1000))
@@ -245,7 +245,7 @@ pub fn flash_by_bonds(method: u64, atoms: Atoms, bonds: Bonds, boiling: i64) -> 
         return refused_rounded_temperature(answer::BOILING_POINT_OUTSIDE, 0);
     }
     let start = line_sum(method_line(method), boiling);
-    rounded(bond_sum(start, column, bonds))
+    rounded_sum(bond_sum(start, column, bonds))
 }
 
 // The flash point from a class, 1 to 10. Refusals 16, 7.
@@ -258,5 +258,5 @@ pub fn flash_by_class(class: u64, boiling: i64) -> RoundedTemperature
     if is_boiling_outside(boiling) {
         return refused_rounded_temperature(answer::BOILING_POINT_OUTSIDE, 0);
     }
-    rounded(line_sum(class_line(class), boiling))
+    rounded_sum(line_sum(class_line(class), boiling))
 }

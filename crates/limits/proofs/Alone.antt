@@ -10,8 +10,7 @@ use Rattle.answer.specs.Outcome.{Outcome, refused, answered, valueOf, andThen}
 use Rattle.answer.specs.Internal.{Numbered}
 use Rattle.answer.proofs.Outcomes.{refuse-numbered, andThen-numbered}
 use Rattle.answer.specs.declared.Rounded.{Rounded}
-use Rattle.rounding.specs.Fraction.{rounded}
-use Rattle.rounding.proofs.Fractions.{is-same, rounded-by-value}
+use Rattle.rounding.proofs.Fractions.{is-same}
 use Rattle.elements.specs.declared.Atoms.{Atoms}
 use Rattle.oxygen.specs.declared.Purpose.the-variants.{GasLimits}
 use Rattle.oxygen.specs.Admission.{admission}
@@ -22,22 +21,22 @@ use Rattle.blend.specs.Temperature.{meant, gasOutside}
 use Rattle.blend.specs.Fuel.{Fuel, fuelAtoms, admitting, quarters}
 use Rattle.blend.specs.Blend.{limits, LimitPair, emptyBlend, adding, askingMarked}
 use Rattle.blend.specs.Calls.{add, changed, put, answerTo, next, after}
-use Rattle.blend.specs.Model.{entry, Entries, sum, limitAt, limitAs, modelAdds, modelTells, modelAsksAs, modelAsksMarked}
+use Rattle.blend.specs.Model.{entry, Entries, sum, limitAt, roundedLimit, modelAdds, modelTells, modelAsksMarked}
 use Rattle.blend.proofs.Weights.{limit-is}
 use Rattle.blend.proofs.Admitted.{admission-facts}
 use Rattle.blend.proofs.LeChatelier.{same-at, le-chatelier-is}
 use Rattle.blend.proofs.Theorem.{claims, marks-alike}
-use Rattle.limits.specs.FuelLimits.{fuelFigure, fuelLimits, AsBlend}
+use Rattle.limits.specs.FuelLimits.{roundedFuelLimit, fuelLimits, AsBlend}
 
 -- LE CHATELIER over one entry of 1 part
 abbrev single : Atoms → Entries
 single a = entry a 1 ∷ []
 
-alone-figure : (s : Side) (a : Atoms) (t : ℕ) → limitAs rounded s (single a) t ≡ fuelFigure s (quarters a) t
-unfolding limitAs limitAt fuelFigure sum
+alone-figure : (s : Side) (a : Atoms) (t : ℕ) → roundedLimit s (single a) t ≡ roundedFuelLimit s (quarters a) t
+unfolding roundedLimit limitAt roundedFuelLimit sum
 alone-figure s a t =
     let i = le-chatelier-is s (single a) (omega arith) in
-    same-at rounded rounded-by-value s t i (is-same (limit-is s (quarters a)) (i .pos) (omega arith))
+    same-at s t i (is-same (limit-is s (quarters a)) (i .pos) (omega arith))
 
 -- AS THE MODEL
 module _ (t : Option ℤ) where
@@ -45,11 +44,11 @@ module _ (t : Option ℤ) where
   modelled o = andThen o (λ es. modelAsksMarked es (limits t))
 
   counts-by-model : (a : Atoms) (o : Outcome ℕ) → admission GasLimits a ≡ o → fuelLimits t a ≡ modelled (andThen (andThen o (λ q. answered a)) (λ x. answered (single x)))
-  unfolding fuelLimits modelTells modelAsksAs sum
+  unfolding fuelLimits modelTells modelAsksMarked sum
   counts-by-model a (refused r) e = rw e
   counts-by-model a (answered q) e =
-      let same : (s : Side) → fuelFigure s q (natAbs (meant t)) ≡ limitAs rounded s (single a) (natAbs (meant t)) =
-      λ s. ap (λ (k : ℕ). fuelFigure s k (natAbs (meant t))) (admission-facts a q e .0) ∙ sym (alone-figure s a (natAbs (meant t))) in
+      let same : (s : Side) → roundedFuelLimit s q (natAbs (meant t)) ≡ roundedLimit s (single a) (natAbs (meant t)) =
+      λ s. ap (λ (k : ℕ). roundedFuelLimit s k (natAbs (meant t))) (admission-facts a q e .0) ∙ sym (alone-figure s a (natAbs (meant t))) in
       rw (e, same lower, same upper)
 
   by-model : (f : Fuel) → andThen (fuelAtoms f) (fuelLimits t) ≡ modelled (modelAdds [] f 1)

@@ -20,7 +20,7 @@ use Rattle.blend.specs.Blend.{LimitPair}
 use Rattle.blend.specs.Fuel.{masses}
 use Rattle.blend.proofs.Admitted.{admission-facts}
 use Rattle.blend.proofs.Masses.{mass-is}
-use Rattle.limits.specs.FuelLimits.{fuelFigures, fuelLimits}
+use Rattle.limits.specs.FuelLimits.{roundedFuelLimits, fuelLimits}
 use Rattle.limits.specs.Concentration.{molarVolume, concentration}
 use Rattle.limits.specs.Internal.{rate}
 
@@ -39,7 +39,7 @@ pub asked-facts : (a : Atoms) (z : ℤ) (l : LimitPair Rounded) → fuelLimits (
 unfolding fuelLimits
 asked-facts a z l = go (admission GasLimits a) refl
   where
-    go : (o : Outcome ℕ) → admission GasLimits a ≡ o → andThen o (λ q. refuse gasTemperatureOutside 0 (gasOutside z) (answered (fuelFigures q (natAbs z)))) ≡ answered l
+    go : (o : Outcome ℕ) → admission GasLimits a ≡ o → andThen o (λ q. refuse gasTemperatureOutside 0 (gasOutside z) (answered (roundedFuelLimits q (natAbs z)))) ≡ answered l
         → AtMost200 a × (natAbs z ≤ 20000)
     go (refused r) e h = apart r l h
     go (answered q) e h = (admission-facts a q e .1 .few, inside-is 20000 z (refuse-passed gasTemperatureOutside 0 (gasOutside z) _ l h .0) .1)

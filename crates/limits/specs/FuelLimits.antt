@@ -18,15 +18,15 @@ use Rattle.blend.specs.Blend.{LimitPair, limits, emptyBlend, adding, askingMark
 use Rattle.blend.specs.Model.{modelAdds, modelAsksMarked}
 
 -- 100 / (aβ + b) %, the limit at the temperature of the fit, times the correction for t, of β in quarters; in hundredths of a percent, rounded once
-unfoldable pub fuelFigure : Side → ℕ → ℕ → Rounded
-fuelFigure s q t = rounded (whole 100 ⊠ (limitOf s q ⊠ correction s t))
+unfoldable pub roundedFuelLimit : Side → ℕ → ℕ → Rounded
+roundedFuelLimit s q t = rounded (whole 100 ⊠ (limitOf s q ⊠ correction s t))
 
-abbrev pub fuelFigures : ℕ → ℕ → LimitPair Rounded
-fuelFigures q t = record { lower = fuelFigure lower q t; upper = fuelFigure upper q t }
+abbrev pub roundedFuelLimits : ℕ → ℕ → LimitPair Rounded
+roundedFuelLimits q t = record { lower = roundedFuelLimit lower q t; upper = roundedFuelLimit upper q t }
 
 -- refusals 2, 3 and 4 of the fuel, then 10
 unfoldable pub fuelLimits : Option ℤ → Atoms → Outcome (LimitPair Rounded)
-fuelLimits t a = andThen (admission GasLimits a) (λ q. refuse gasTemperatureOutside 0 (gasOutside (meant t)) (answered (fuelFigures q (natAbs (meant t)))))
+fuelLimits t a = andThen (admission GasLimits a) (λ q. refuse gasTemperatureOutside 0 (gasOutside (meant t)) (answered (roundedFuelLimits q (natAbs (meant t)))))
 
 -- a fuel alone is a blend of it at 1 part, and in the reference model entries with that fuel at 1 part
 pub record AsBlend (f : Fuel) (t : Option ℤ) : Type 0 where

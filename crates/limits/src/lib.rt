@@ -11,9 +11,9 @@ use answer::Rounded;
 use blend::Limits;
 use blend::USUAL_TEMPERATURE;
 use blend::add_fuel;
+use blend::answered_limits;
 use blend::blend_limits_at;
 use blend::empty_blend;
-use blend::limits_of;
 use blend::molar_mass;
 use blend::no_limits;
 use elements::Atoms;
@@ -65,5 +65,5 @@ pub fn mass_concentration(fuel: Atoms, temperature: i64) -> Limits
     let t = size(temperature);
     let lower = rate_of(mass, t, limits.lower);
     let upper = rate_of(mass, t, limits.upper);
-    limits_of(lower, upper)
+    answered_limits(lower, upper)
 }

@@ -3,9 +3,8 @@ use mathlib.Core.Path.{_≡_, refl, sym, ap, ap₂}
 use Prim.Native.Nat.{ℕ, _+_, _*_, _≤_, _<_}
 use native.Mathlib.Nat.{mul-pos, mul-le-mul-right, le-of-mul-le-mul-right, eq-of-mul-eq-mul-right, lt-of-mul-lt-mul-right}
 use native.Mathlib.Omega.{arith}
-use Rattle.answer.specs.declared.Rounded.{Rounded}
 use Rattle.rounding.specs.Round.{roundDiv}
-use Rattle.rounding.specs.Fraction.{Fraction, _over_, whole, _⊞_, _⊠_, _⊘_, _⊑_, _≃_, rounded, figure}
+use Rattle.rounding.specs.Fraction.{Fraction, _over_, whole, _⊞_, _⊠_, _⊘_, _⊑_, rounded, figure}
 use Rattle.rounding.proofs.Rounding.{round-mono, div-same}
 
 -- f has the value n / d
@@ -76,13 +75,6 @@ module _ {f g : Fraction} {n d m e : ℕ} (i : Is f n d) (j : Is g m e) where
       let z : n * e * (f .den * g .den) ≤ m * d * (f .den * g .den) = omega arith in
       le-of-mul-le-mul-right z (mul-pos (i .den-pos) (j .den-pos))
 
-pub equal-is : {f g : Fraction} {n d : ℕ} → Is f n d → Is g n d → f ≃ g
-equal-is {f} {g} {n} {d} i j =
-    let a = ap (λ (x : ℕ). x * g .den) (i .cross) in
-    let b = ap (λ (x : ℕ). x * f .den) (j .cross) in
-    let c : f .num * g .den * d ≡ g .num * f .den * d = omega arith in
-    record { left-over = i .den-pos; right-over = j .den-pos; cross = eq-of-mul-eq-mul-right d (i .pos) _ _ c }
-
 -- a factor keeps it, on either side
 module _ {f g : Fraction} (h : Fraction) (p : 0 < h .den) (l : f ⊑ g) where
   pub at-most-times : f ⊠ h ⊑ g ⊠ h
@@ -105,15 +97,3 @@ rounded-is {f} {n} {d} i = div-same (f .num) (f .den) n d (i .den-pos) (i .pos) 
 pub figure-mono : {f g : Fraction} → f ⊑ g → figure f ≤ figure g
 unfolding figure rounded roundDiv
 figure-mono {f} {g} h = round-mono (f .num) (f .den) (g .num) (g .den) (h .left-over) (h .right-over) (h .cross)
-
--- what is told of a fraction where equal ones are told alike: its figure, with its mark or without
-abbrev pub ByValue : {A : Type 0} → (Fraction → A) → Type 0
-ByValue tell = (f g : Fraction) → f ≃ g → tell f ≡ tell g
-
-pub rounded-by-value : ByValue rounded
-unfolding rounded
-rounded-by-value f g e = div-same (f .num) (f .den) (g .num) (g .den) (e .left-over) (e .right-over) (e .cross)
-
-pub figure-by-value : ByValue figure
-unfolding figure
-figure-by-value f g e = ap (λ (r : Rounded). r .value) (rounded-by-value f g e)

@@ -10,11 +10,10 @@ use lib.Signed.{ltZ}
 use borrow.Author.Tests.{ltb-true}
 use Rattle.answer.specs.declared.Rounded.{Rounded}
 use Rattle.answer.specs.declared.RoundedSigned.{RoundedSigned}
-use Rattle.answer.specs.Outcome.{noFigure}
 use Rattle.rounding.specs.Round.{roundedValue, markOf, roundDiv, roundedValueℤ, roundDivℤ}
-use Rattle.rounding.specs.Rounds.{Nearest, Marked, Rounds, Roundsℤ}
+use Rattle.rounding.specs.Rounds.{Nearest, Marked, is-exact, is-lowered, Rounds, Roundsℤ}
 use Rattle.rounding.proofs.Marks.{marked, marked-only, mark-alike}
-use Rattle.rounding.proofs.Signed.{size-neg-is, neg-times, size-diff, size-diff-neg}
+use Rattle.rounding.proofs.Signed.{size-flip, size-neg-is, neg-times, size-diff, size-diff-neg}
 
 -- the nearest number, and the only one
 pub nearest : (n d : ℕ) → 0 < d → Nearest n d (roundedValue n d)
@@ -61,11 +60,15 @@ pub round-only : (n d r m : ℕ) → 0 < d → Nearest n d r → Marked n d r m 
 unfolding roundDiv
 round-only n d r m h t k = let e = nearest-is n d r t in ap₂ with-mark e (rw e at (marked-only n d r h m k))
 
--- below a half it is 0
-pub round-none : (n d m : ℕ) → 2 * n < d → Marked n d 0 m → with-mark 0 m ≡ roundDiv n d
+-- below a half it is 0, exactly or lowered; so all that is below a half and not 0 is rounded alike
+round-none : (n d m : ℕ) → 2 * n < d → Marked n d 0 m → with-mark 0 m ≡ roundDiv n d
 round-none n d m h k = round-only n d 0 m (omega arith) (record { low = omega arith; high = omega arith }) k
 
-pub div-by-zero : (n : ℕ) → noFigure ≡ roundDiv n 0
+pub none-alike : (a b c d : ℕ) → 2 * a < b → 2 * c < d → (a ≡ 0 → c ≡ 0) → (0 < a → 0 < c) → roundDiv a b ≡ roundDiv c d
+none-alike zero b c d h k z p = sym (round-none 0 b 0 h (is-exact (omega arith))) ∙ round-none c d 0 k (is-exact (omega (arith, z refl)))
+none-alike (suc a) b c d h k z p = sym (round-none (suc a) b 2 h (is-lowered (omega arith))) ∙ round-none c d 2 k (is-lowered (omega (arith, p (omega arith))))
+
+pub div-by-zero : (n : ℕ) → with-mark 0 0 ≡ roundDiv n 0
 unfolding roundDiv markOf
 div-by-zero n = ap₂ with-mark (sym (round-by-zero n)) refl
 
@@ -139,6 +142,16 @@ module _ (z : ℤ) (d : ℕ) (r : Rounded) (e : r ≡ roundDiv (natAbs z) d) (v 
   unfolding roundDiv
   div-pos h p = with-sign (p ∙ ap (λ (x : Rounded). pos (x .value)) e ∙ round-pos z d h)
 
+-- −z is rounded as z, with the same mark; by 0 nothing is left
+div-odd : (z : ℤ) (d : ℕ) → roundDivℤ (negℤ z) d ≡ record { value = negℤ (roundedValueℤ z d); mark = roundDiv (natAbs z) d .mark }
+unfolding roundDivℤ
+div-odd z d = rw (size-flip z, round-odd z d)
+
+signed-by-zero : (z : ℤ) → roundDivℤ z 0 ≡ record { value = pos 0; mark = 0 }
+unfolding roundDivℤ roundedValueℤ roundDiv markOf
+signed-by-zero (pos n) = rw (round-by-zero n)
+signed-by-zero (negsuc n) = rw (round-by-zero (suc n))
+
 pub roundsℤ : (z : ℤ) (d : ℕ) (r : RoundedSigned) → r ≡ roundDivℤ z d → Roundsℤ z d r
 unfolding roundDivℤ roundDiv
 roundsℤ z d r e =
@@ -147,5 +160,6 @@ roundsℤ z d r e =
       near = round-near z d;
       size = round-size z d;
       marked = λ h. rw (round-size z d) (marked (natAbs z) d (roundedValue (natAbs z) d) h);
-      odd = round-odd z d;
+      odd = div-odd z d;
+      by-zero = λ h. rw h (signed-by-zero z);
     })

@@ -12,11 +12,11 @@ use Rattle.rounding.specs.declared.Quotient.{Quotient}
 abbrev pub divided : ℕ → ℕ → Quotient
 divided n d = record { quotient = n / d; remainder = n % d }
 
--- n / d rounded; by 0 it is 0
+-- n / d rounded; by 0, where the papers leave it free, it is 0
 unfoldable pub roundedValue : ℕ → ℕ → ℕ
 roundedValue n d = (2 * n + d) / (2 * d)
 
--- the mark of r in the place of n / d: r d against n; by 0 it is 0
+-- the mark of r in the place of n / d: r d against n; by 0, left free too, it is 0
 unfoldable pub markOf : ℕ → ℕ → ℕ → ℕ
 markOf n d r = cond (eqb d 0) exact (cond (ltb n (r * d)) raised (cond (ltb (r * d) n) lowered exact))
 

@@ -4,7 +4,6 @@ use Prim.Native.Nat.{ℕ, _+_, _*_, _≤_, _<_}
 use lib.IntN.{ℤ, pos, negℤ, natAbs, _-ℤ_, _*ℤ_}
 use Rattle.answer.specs.declared.Rounded.{Rounded}
 use Rattle.answer.specs.declared.RoundedSigned.{RoundedSigned}
-use Rattle.answer.specs.Outcome.{noFigure}
 use Rattle.answer.specs.Marks.{exact, raised, lowered}
 use Rattle.rounding.specs.Round.{roundDiv, roundDivℤ}
 
@@ -27,11 +26,13 @@ pub record Rounds (n d : ℕ) (r : Rounded) : Type 0 where
   pub marked : 0 < d → Marked n d (r .value) (r .mark)
   pub alike : (m e : ℕ) → 0 < d → 0 < e → n * e ≡ m * d → roundDiv m e ≡ r
   pub monotone : (m e : ℕ) → 0 < d → 0 < e → n * e ≤ m * d → r .value ≤ roundDiv m e .value
-  pub by-zero : d ≡ 0 → r ≡ noFigure
+  pub by-zero : d ≡ 0 → r ≡ record { value = 0; mark = 0 }
 
--- r is z / d rounded: at most 1/2 away, its size that of z rounded, so that halves go away from zero on both sides; the mark speaks of the sizes
+-- r is z / d rounded: at most 1/2 away, its size that of z rounded, so that halves go away from zero on both sides; the mark speaks of the sizes, so that −z
+-- has the same
 pub record Roundsℤ (z : ℤ) (d : ℕ) (r : RoundedSigned) : Type 0 where
   pub near : 0 < d → 2 * natAbs (z -ℤ r .value *ℤ pos d) ≤ d
   pub size : natAbs (r .value) ≡ roundDiv (natAbs z) d .value
   pub marked : 0 < d → Marked (natAbs z) d (natAbs (r .value)) (r .mark)
-  pub odd : roundDivℤ (negℤ z) d .value ≡ negℤ (r .value)
+  pub odd : roundDivℤ (negℤ z) d ≡ record { value = negℤ (r .value); mark = r .mark }
+  pub by-zero : d ≡ 0 → r ≡ record { value = pos 0; mark = 0 }

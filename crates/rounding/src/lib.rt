@@ -86,9 +86,9 @@ pub fn round_div(n: u64, d: u64) -> Rounded
             mark: answer::EXACT,
         };
     }
-    let exact = divide(n, d);
-    let q = exact.quotient;
-    let rest = exact.remainder;
+    let divided = divide(n, d);
+    let q = divided.quotient;
+    let rest = divided.remainder;
     if rest == 0 {
         return Rounded {
             value: q,
@@ -137,15 +137,16 @@ pub fn round_div_signed(n: i64, d: u64) -> RoundedSigned
     ensures rounds { λ r. ⌜ Roundsℤ n d r ⌝ }
 {
     let quotient = round_div(size(n), d);
+    let value = quotient.value;
     let mark = quotient.mark;
     if n < 0 {
         return RoundedSigned {
-            value: negated(quotient.value),
+            value: negated(value),
             mark,
         };
     }
     RoundedSigned {
-        value: quotient.value as i64,
+        value: value as i64,
         mark,
     }
 }

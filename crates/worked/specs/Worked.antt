@@ -1,5 +1,5 @@
 -- The worked examples: the figures that document 01 marks for proof, as change requests amend them, and figures added with those; each question with its
--- printed answer, and each rounded figure with its mark.
+-- printed answer as the answer's struct has it, and each rounded figure with its mark: 0 exact, 1 raised, 2 lowered.
 use mathlib.Core.Path.{_≡_}
 use mathlib.Core.List.{List, [], _∷_}
 use mathlib.Core.Bool.{cond}
@@ -8,17 +8,21 @@ use Prim.Native.Nat.{ℕ, zero, suc}
 use Prim.Native.String.{String}
 use lib.Dec.{eqb}
 use lib.IntN.{ℤ, pos, negℤ}
-use Rattle.answer.specs.Outcome.{Outcome, refused, answered}
-use Rattle.answer.specs.declared.Rounded.{Rounded}
-use Rattle.answer.specs.declared.RoundedSigned.{RoundedSigned}
-use Rattle.answer.specs.Marks.{exact, raised, lowered}
+use Rattle.answer.specs.declared.Refusal.{Refusal}
+use Rattle.answer.specs.declared.Figure.{Figure}
+use Rattle.answer.specs.declared.Temperature.{Temperature}
+use Rattle.answer.specs.declared.RoundedFigure.{RoundedFigure}
+use Rattle.answer.specs.declared.RoundedTemperature.{RoundedTemperature}
+use Rattle.answer.specs.Outcome.{shownFigure, shownTemperature, shownRounded, shownRoundedTemperature}
 use Rattle.text.specs.Bytes.{bytes}
 use Rattle.elements.specs.declared.Atoms.{Atoms}
-use Rattle.formula.specs.Reading.{reading, ofText}
+use Rattle.formula.specs.declared.FormulaRead.{FormulaRead}
+use Rattle.formula.specs.Reading.{formulaRead, ofText}
 use Rattle.oxygen.specs.Admission.{oxygenCoefficient}
 use Rattle.oxygen.specs.Stoichiometric.{stoichiometricFraction}
 use Rattle.blend.specs.Limit.{fitTemperature}
-use Rattle.blend.specs.Blend.{LimitPair, shownLimits}
+use Rattle.blend.specs.declared.Limits.{Limits}
+use Rattle.blend.specs.Blend.{shownLimits}
 use Rattle.limits.specs.FuelLimits.{fuelLimits}
 use Rattle.limits.specs.Concentration.{massConcentration}
 use Rattle.bonds.specs.declared.Bonds.{Bonds}
@@ -53,29 +57,38 @@ pub data Case : Type 0 where
   sheetLimits : String → Case
   sheet : String → Case
 
--- what is printed: a refusal's number and place; the counts of C H O N S P F Cl Br Si; β in quarters; rounded figures in hundredths, each with its mark;
--- hundredths of a degree, found on a curve or rounded, with the mark; or text
+-- what is printed: a refusal's number and place; the counts of C H O N S P F Cl Br Si; β in quarters; figures in hundredths, each with its mark; hundredths of
+-- a degree, found on a curve or rounded, with the mark; or text
 pub data Printed : Type 0 where
   refusal : (number place : ℕ) → Printed
   counts : List ℕ → Printed
-  quarters : ℕ → Printed
+  inQuarters : ℕ → Printed
   figures : List (ℕ × ℕ) → Printed
   degrees : ℤ → Printed
-  roundedDegrees : ℤ → ℕ → Printed
+  markedDegrees : ℤ → ℕ → Printed
   lines : List ℕ → Printed
 
-abbrev pub printedBy : {A : Type 0} → (A → Printed) → Outcome A → Printed
-printedBy f (refused r) = refusal (r .number) (r .place)
-printedBy f (answered a) = f a
+-- of an answer by its struct: its refusal, or its other fields
+abbrev pub unlessRefused : Refusal → Printed → Printed
+unlessRefused r p = cond (eqb (r .number) 0) p (refusal (r .number) (r .place))
 
-abbrev pub figure : Rounded → ℕ × ℕ
-figure r = (r .value, r .mark)
+abbrev pub printedFormula : FormulaRead → Printed
+printedFormula r = unlessRefused (r .refusal) (counts (r .atoms .count))
 
-abbrev pub both : LimitPair Rounded → Printed
-both l = figures (figure (l .lower) ∷ figure (l .upper) ∷ [])
+abbrev pub printedCoefficient : Figure → Printed
+printedCoefficient r = unlessRefused (r .refusal) (inQuarters (r .value))
 
-abbrev pub point : RoundedSigned → Printed
-point r = roundedDegrees (r .value) (r .mark)
+abbrev pub printedFigure : RoundedFigure → Printed
+printedFigure r = unlessRefused (r .refusal) (figures ((r .value, r .mark) ∷ []))
+
+abbrev pub printedLimits : Limits → Printed
+printedLimits r = unlessRefused (r .refusal) (figures ((r .lower, r .«lower_mark») ∷ (r .upper, r .«upper_mark») ∷ []))
+
+abbrev pub printedPoint : RoundedTemperature → Printed
+printedPoint r = unlessRefused (r .refusal) (markedDegrees (r .value) (r .mark))
+
+abbrev pub printedTemperature : Temperature → Printed
+printedTemperature r = unlessRefused (r .refusal) (degrees (r .value))
 
 abbrev pub countOfKind : List (ℕ × ℕ) → ℕ → ℕ
 countOfKind [] k = 0
@@ -94,18 +107,18 @@ abbrev pub workedCurve : Curve
 workedCurve = curve (pos 0 ∷ pos 1000 ∷ pos 2000 ∷ []) (1000 ∷ 2000 ∷ 4000 ∷ [])
 
 abbrev pub answer : Case → Printed
-answer (formula t) = printedBy (λ (a : Atoms). counts (a .count)) (reading (bytes t))
-answer (coefficient t) = printedBy quarters (ofText oxygenCoefficient (bytes t))
-answer (fraction t) = printedBy (λ (r : Rounded). figures (figure r ∷ [])) (ofText stoichiometricFraction (bytes t))
-answer (limits t) = printedBy both (ofText (fuelLimits (some fitTemperature)) (bytes t))
-answer (limitsAt t k) = printedBy both (ofText (fuelLimits (some (pos k))) (bytes t))
-answer (limitsUsual t) = printedBy both (ofText (fuelLimits none) (bytes t))
-answer (concentrations t k) = printedBy both (ofText (massConcentration (pos k)) (bytes t))
-answer (flash m t kinds boiling) = printedBy point (ofText (λ (a : Atoms). byBonds m a (bondsOf kinds) (pos boiling)) (bytes t))
-answer (flashOfClass k boiling) = printedBy point (byClass k (pos boiling))
-answer (lowerTemperature t) = printedBy degrees (ofText (λ (a : Atoms). lowerTemperatureLimit a workedCurve) (bytes t))
-answer (flashOnCurve m t diffusion) = printedBy degrees (ofText (λ (a : Atoms). flashByCurve m a diffusion workedCurve) (bytes t))
-answer (sheetLimits t) = printedBy both (sheetAnswer (bytes t))
+answer (formula t) = printedFormula (formulaRead (bytes t))
+answer (coefficient t) = printedCoefficient (shownFigure (ofText oxygenCoefficient (bytes t)))
+answer (fraction t) = printedFigure (shownRounded (ofText stoichiometricFraction (bytes t)))
+answer (limits t) = printedLimits (shownLimits (ofText (fuelLimits (some fitTemperature)) (bytes t)))
+answer (limitsAt t k) = printedLimits (shownLimits (ofText (fuelLimits (some (pos k))) (bytes t)))
+answer (limitsUsual t) = printedLimits (shownLimits (ofText (fuelLimits none) (bytes t)))
+answer (concentrations t k) = printedLimits (shownLimits (ofText (massConcentration (pos k)) (bytes t)))
+answer (flash m t kinds boiling) = printedPoint (shownRoundedTemperature (ofText (λ (a : Atoms). byBonds m a (bondsOf kinds) (pos boiling)) (bytes t)))
+answer (flashOfClass k boiling) = printedPoint (shownRoundedTemperature (byClass k (pos boiling)))
+answer (lowerTemperature t) = printedTemperature (shownTemperature (ofText (λ (a : Atoms). lowerTemperatureLimit a workedCurve) (bytes t)))
+answer (flashOnCurve m t diffusion) = printedTemperature (shownTemperature (ofText (λ (a : Atoms). flashByCurve m a diffusion workedCurve) (bytes t)))
+answer (sheetLimits t) = printedLimits (shownLimits (sheetAnswer (bytes t)))
 answer (sheet t) = lines (answerText (shownLimits (sheetAnswer (bytes t))))
 
 pub record Example : Type 0 where
@@ -116,28 +129,28 @@ abbrev pub examples : List Example
 examples =
     record { asked = formula "CH3CH(OH)CH3"; printed = counts (3 ∷ 8 ∷ 1 ∷ 0 ∷ 0 ∷ 0 ∷ 0 ∷ 0 ∷ 0 ∷ 0 ∷ []) }
     ∷ record { asked = formula "c"; printed = refusal 1 0 }
-    ∷ record { asked = limits "CH4"; printed = figures ((454, raised) ∷ (2732, lowered) ∷ []) }
-    ∷ record { asked = limitsUsual "CH4"; printed = figures ((455, lowered) ∷ (2715, lowered) ∷ []) }
-    ∷ record { asked = fraction "CH4"; printed = figures ((936, lowered) ∷ []) }
-    ∷ record { asked = limitsAt "CH4" 13400; printed = figures ((414, lowered) ∷ (3099, lowered) ∷ []) }
-    ∷ record { asked = limitsAt "CH3Cl" 18530; printed = figures ((492, lowered) ∷ (4150, lowered) ∷ []) }
-    ∷ record { asked = limitsAt "CH2O" 6966; printed = figures ((722, raised) ∷ (5000, exact) ∷ []) }
-    ∷ record { asked = concentrations "CH4" 13400; printed = figures ((1983, raised) ∷ (14841, lowered) ∷ []) }
-    ∷ record { asked = concentrations "CH3Cl" 2000; printed = figures ((11903, lowered) ∷ (72322, lowered) ∷ []) }
-    ∷ record { asked = coefficient "C6H6"; printed = quarters 30 }
-    ∷ record { asked = limits "C6H6"; printed = figures ((143, lowered) ∷ (821, raised) ∷ []) }
-    ∷ record { asked = limitsUsual "C6H6"; printed = figures ((144, raised) ∷ (816, raised) ∷ []) }
+    ∷ record { asked = limits "CH4"; printed = figures ((454, 1) ∷ (2732, 2) ∷ []) }
+    ∷ record { asked = limitsUsual "CH4"; printed = figures ((455, 2) ∷ (2715, 2) ∷ []) }
+    ∷ record { asked = fraction "CH4"; printed = figures ((936, 2) ∷ []) }
+    ∷ record { asked = limitsAt "CH4" 13400; printed = figures ((414, 2) ∷ (3099, 2) ∷ []) }
+    ∷ record { asked = limitsAt "CH3Cl" 18530; printed = figures ((492, 2) ∷ (4150, 2) ∷ []) }
+    ∷ record { asked = limitsAt "CH2O" 6966; printed = figures ((722, 1) ∷ (5000, 0) ∷ []) }
+    ∷ record { asked = concentrations "CH4" 13400; printed = figures ((1983, 1) ∷ (14841, 2) ∷ []) }
+    ∷ record { asked = concentrations "CH3Cl" 2000; printed = figures ((11903, 2) ∷ (72322, 2) ∷ []) }
+    ∷ record { asked = coefficient "C6H6"; printed = inQuarters 30 }
+    ∷ record { asked = limits "C6H6"; printed = figures ((143, 2) ∷ (821, 1) ∷ []) }
+    ∷ record { asked = limitsUsual "C6H6"; printed = figures ((144, 1) ∷ (816, 1) ∷ []) }
     ∷ record { asked = limits "CO2"; printed = refusal 4 0 }
-    ∷ record { asked = flash 1 "C2H5OH" ((1, 1) ∷ (4, 5) ∷ (5, 1) ∷ (18, 1) ∷ []) 7840; printed = roundedDegrees (pos 839) lowered }
-    ∷ record { asked = flash 2 "C2H5OH" ((1, 1) ∷ (4, 5) ∷ (5, 1) ∷ (18, 1) ∷ []) 7840; printed = roundedDegrees (pos 1336) raised }
-    ∷ record { asked = flash 3 "C2H5OH" ((1, 1) ∷ (4, 5) ∷ (5, 1) ∷ (18, 1) ∷ []) 7840; printed = roundedDegrees (pos 1891) lowered }
-    ∷ record { asked = flash 1 "C6H6" ((2, 6) ∷ (4, 6) ∷ []) 8005; printed = roundedDegrees (negℤ (pos 1544)) raised }
-    ∷ record { asked = flashOfClass 1 500; printed = roundedDegrees (negℤ (pos 6976)) raised }
-    ∷ record { asked = flashOfClass 1 0; printed = roundedDegrees (negℤ (pos 7322)) exact }
+    ∷ record { asked = flash 1 "C2H5OH" ((1, 1) ∷ (4, 5) ∷ (5, 1) ∷ (18, 1) ∷ []) 7840; printed = markedDegrees (pos 839) 2 }
+    ∷ record { asked = flash 2 "C2H5OH" ((1, 1) ∷ (4, 5) ∷ (5, 1) ∷ (18, 1) ∷ []) 7840; printed = markedDegrees (pos 1336) 1 }
+    ∷ record { asked = flash 3 "C2H5OH" ((1, 1) ∷ (4, 5) ∷ (5, 1) ∷ (18, 1) ∷ []) 7840; printed = markedDegrees (pos 1891) 2 }
+    ∷ record { asked = flash 1 "C6H6" ((2, 6) ∷ (4, 6) ∷ []) 8005; printed = markedDegrees (negℤ (pos 1544)) 1 }
+    ∷ record { asked = flashOfClass 1 500; printed = markedDegrees (negℤ (pos 6976)) 1 }
+    ∷ record { asked = flashOfClass 1 0; printed = markedDegrees (negℤ (pos 7322)) 0 }
     ∷ record { asked = lowerTemperature "C2H6"; printed = degrees (pos 1444) }
     ∷ record { asked = lowerTemperature "CH4"; printed = refusal 13 0 }
     ∷ record { asked = flashOnCurve 1 "C6H6" 800; printed = degrees (pos 669) }
-    ∷ record { asked = sheetLimits "formula,parts\r\nC3H8,300000\r\nC2H6,700000\r\n"; printed = figures ((258, raised) ∷ (1487, lowered) ∷ []) }
+    ∷ record { asked = sheetLimits "formula,parts\r\nC3H8,300000\r\nC2H6,700000\r\n"; printed = figures ((258, 1) ∷ (1487, 2) ∷ []) }
     ∷ record { asked = sheet "formula,parts\r\nC3H8,300000\r\nC2H6,700000\r\n"; printed = lines (bytes "answer,record,lower,upper\r\n0,0,2.58,14.87\r\n") }
     ∷ []
 

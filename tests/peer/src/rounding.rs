@@ -1,6 +1,6 @@
 //! Rounding once from the exact fraction, halves away from zero, and the mark of what that did to the figure's size.
 
-use std::ops::Sub;
+use std::cmp::Ordering;
 
 pub const EXACT: u64 = 0;
 pub const RAISED: u64 = 1;
@@ -13,32 +13,33 @@ pub struct Rounded<T = u64> {
     pub mark: u64,
 }
 
-/// n/d rounded; d is above 0.
+/// n/d rounded; d is above 0 and n + d/2 fits.
 #[inline]
 pub fn rounded(n: u64, d: u64) -> Rounded {
-    by_rest(n / d, n % d, d)
+    let value = (n + d / 2) / d;
+    Rounded { value, mark: mark(value * d, n) }
 }
 
-/// The same of wider numbers; the figure fits.
+/// The same of wider numbers; 2n + d fits, and so does the figure.
 pub fn rounded_wide(n: u128, d: u128) -> Rounded {
-    by_rest((n / d) as u64, n % d, d)
+    let value = (2 * n + d) / (2 * d);
+    Rounded { value: value as u64, mark: mark(value * d, n) }
 }
 
-/// n / 2^bits rounded; bits are fewer than 128, and the figure fits.
+/// n / 2^bits rounded; bits are 1 to 100, n is below 2^100, and the figure fits.
 #[inline]
 pub fn rounded_shift(n: u128, bits: u32) -> Rounded {
-    let d = 1 << bits;
-    by_rest((n >> bits) as u64, n & (d - 1), d)
+    let value = (n + (1 << (bits - 1))) >> bits;
+    Rounded { value: value as u64, mark: mark(value << bits, n) }
 }
 
+/// By the figure times the denominator, against the numerator.
 #[inline]
-fn by_rest<T: Copy + Default + PartialOrd + Sub<Output = T>>(below: u64, rest: T, d: T) -> Rounded {
-    if rest == T::default() {
-        Rounded { value: below, mark: EXACT }
-    } else if rest < d - rest {
-        Rounded { value: below, mark: LOWERED }
-    } else {
-        Rounded { value: below + 1, mark: RAISED }
+fn mark<T: Ord>(product: T, n: T) -> u64 {
+    match product.cmp(&n) {
+        Ordering::Equal => EXACT,
+        Ordering::Greater => RAISED,
+        Ordering::Less => LOWERED,
     }
 }
 

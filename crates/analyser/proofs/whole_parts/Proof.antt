@@ -20,7 +20,7 @@ known : (c : tie.Else1) → let a = c .before .args in let b = toBits binary64 (
 known c = facts (c .before .args .x) (c .before .args .factor) (c .before .args .twos) (held (c .before)) (c .before .pre) (omega arith)
 
 returns-2 : tie.Need-returns-2
-returns-2 c = c .round-div .ensures .0 ∙ known (c .before) .is _ _ (omega arith) (omega arith)
+returns-2 c = c .round-div2 .ensures .0 ∙ known (c .before) .is _ _ (omega arith) (omega arith)
 
 pub whole-parts-spec : {M : Type 1} → statement M
 whole-parts-spec =
@@ -29,7 +29,7 @@ whole-parts-spec =
     (λ c. no-nan _ (c .pre .is-amount))
     (λ c. omega (arith, c .pre .scale .small-twos))
     (λ c κs. tt)
-    (λ c. c .below-half .ensures ∙ below-half _ _ _ (held (c .before .before)) (c .before .before .pre) (omega arith))
+    (λ c. c .round-div .ensures .0 ∙ below-half _ _ _ (held (c .before .before)) (c .before .before .pre) (omega arith))
     (λ c. search needs)
     (λ c. omega (arith, known c))
     (λ c. omega (arith, known c))

@@ -1,5 +1,5 @@
 -- `blend_limits` meets its contract: with none named, the usual temperature is meant.
-use Rattle.blend.specs.Blend.{telling, askingAs}
+use Rattle.blend.specs.Blend.{telling, askingMarked}
 use Rattle.blend.proofs.blend_limits.Statement.{statement}
 use Rattle.blend.proofs.blend_limits.Tie as tie
 
@@ -7,7 +7,7 @@ blend-limits-at-requires : tie.Need-blend-limits-at-requires
 blend-limits-at-requires c κs = tt
 
 returns : tie.Need-returns
-unfolding askingAs telling
+unfolding askingMarked telling
 returns c = let e = c .blend-limits-at .ensures in (e .0, e .1 .0)
 
 pub blend-limits-spec : {M : Type 1} → statement M

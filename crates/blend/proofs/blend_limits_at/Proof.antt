@@ -9,10 +9,9 @@ use mir.Facts.{toZ-ofZ}
 use borrow.Author.Tests.{not-true, not-false, eq-eqb, ne-eqb}
 use Rattle.answer.specs.Outcome.{refused, answered, refusal}
 use Rattle.answer.proofs.Outside.{inside-is}
-use Rattle.rounding.specs.Fraction.{rounded}
 use Rattle.blend.specs.declared.Limits.{Limits}
 use Rattle.blend.specs.Temperature.{gasOutside}
-use Rattle.blend.specs.Blend.{within, limitsAt, telling, askingAs, shownLimits}
+use Rattle.blend.specs.Blend.{within, limitsAt, telling, askingMarked, shownLimits}
 use Rattle.blend.proofs.Bounds.{within-facts}
 use Rattle.blend.proofs.LeChatelier.{one-at-fit}
 use Rattle.blend.proofs.Figures.{lower-most, upper-most}
@@ -36,11 +35,11 @@ gas : (c : tie.After-is-outside-signed) → c .is-outside-signed .result ≡ gas
 gas c = rw (toZ-ofZ (c .before .before .before .before .before .fits .temperature)) at (c .is-outside-signed .ensures)
 
 returns : tie.Need-returns
-unfolding askingAs
+unfolding askingMarked
 returns c = let e = c .no-limits .ensures in rw (beyond (c .before)) (e, (none _ _ _ e, one-at-fit))
 
 returns-2 : tie.Need-returns-2
-unfolding askingAs
+unfolding askingMarked
 returns-2 c =
     let i = c .before .before .before in
     let e = c .no-limits2 .ensures in
@@ -51,7 +50,7 @@ module _ (c : tie.Else2) where
   some = ne-eqb (c .before .before .before .before .args .b .total) 0 (λ z. omega arith)
 
 returns-3 : tie.Need-returns-3
-unfolding askingAs telling
+unfolding askingMarked telling
 returns-3 c =
     let i = c .before .before .before in
     let e = c .no-limits3 .ensures in
@@ -73,7 +72,7 @@ limits-from-requires c κs =
     (within-facts _ (inside i), omega arith, admitted c)
 
 returns-4 : tie.Need-returns-4
-unfolding askingAs telling
+unfolding askingMarked telling
 returns-4 c =
     let z = c .before in
     let i = z .before .before .before in
@@ -81,7 +80,7 @@ returns-4 c =
     let w = within-facts _ (inside (i .before .before)) in
     let made = c .limits-from .ensures in
     let most : Most (c .limits-from .result) = rw made (lower-most b (z .size .result) w (omega arith) (admitted z), upper-most b (z .size .result) w (omega arith) (admitted z)) in
-    rw (inside (i .before .before), some i, warm (z .before)) (made ∙ ap (λ (t : ℕ). shownLimits (answered (limitsAt rounded b t))) (sized z), (most, one-at-fit))
+    rw (inside (i .before .before), some i, warm (z .before)) (made ∙ ap (λ (t : ℕ). shownLimits (answered (limitsAt b t))) (sized z), (most, one-at-fit))
 
 pub blend-limits-at-spec : {M : Type 1} → statement M
 blend-limits-at-spec =

@@ -2,23 +2,17 @@
 use mathlib.Core.Path.{ap₂, _∙_}
 use native.Mathlib.Omega.{arith}
 use borrow.Author.Needs.{needs}
-use Rattle.answer.specs.declared.Rounded.{Rounded}
-use Rattle.answer.specs.Outcome.{answered}
-use Rattle.blend.specs.declared.Limits.{Limits}
-use Rattle.blend.specs.Blend.{shownLimits}
+use Rattle.blend.proofs.Told.{shownPair}
 use Rattle.blend.proofs.Figures.{lower-figure, upper-figure}
 use Rattle.blend.proofs.limits_from.Statement.{statement}
 use Rattle.blend.proofs.limits_from.Tie as tie
-
-abbrev shown : Rounded → Rounded → Limits
-shown x y = shownLimits (answered (record { lower = x; upper = y }))
 
 returns : tie.Need-returns
 returns c =
     let r = c .before in
     let a = r .before .before .args in
-    c .limits-of .ensures
-    ∙ ap₂ shown (r .before .rated .ensures ∙ lower-figure (a .b) (a .t) (omega arith)) (r .rated2 .ensures ∙ upper-figure (a .b) (a .t) (omega arith))
+    c .answered-limits .ensures
+    ∙ ap₂ shownPair (r .before .rated .ensures ∙ lower-figure (a .b) (a .t) (omega arith)) (r .rated2 .ensures ∙ upper-figure (a .b) (a .t) (omega arith))
 
 pub limits-from-spec : {M : Type 1} → statement M
 limits-from-spec =

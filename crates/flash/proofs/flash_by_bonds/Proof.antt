@@ -118,7 +118,7 @@ returns-6 c =
     let d = b .before .before .before .before .before in
     let e = d .before .before .before in
     rw (known (e .before .before .before .before) .0, few (e .before .before) .0, balanced e, filled d, admitted (b .before .before .before))
-    (c .rounded .ensures ∙ ap shownSum (sum-is b))
+    (c .rounded-sum .ensures ∙ ap shownSum (sum-is b))
 
 pub flash-by-bonds-spec : {M : Type 1} → statement M
 flash-by-bonds-spec =

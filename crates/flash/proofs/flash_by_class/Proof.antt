@@ -50,7 +50,7 @@ returns-3 : tie.Need-returns-3
 unfolding byClass
 returns-3 c =
     let a = c .before .before .before in
-    rw (known (a .before .before), admitted a) (c .rounded .ensures ∙ ap shownSum (sum-is (c .before)))
+    rw (known (a .before .before), admitted a) (c .rounded-sum .ensures ∙ ap shownSum (sum-is (c .before)))
 
 pub flash-by-class-spec : {M : Type 1} → statement M
 flash-by-class-spec =

@@ -5,13 +5,11 @@ use Prim.Native.Nat.{ℕ, _≤_}
 use native.Mathlib.Omega.{arith}
 use lib.IntN.{natAbs}
 use mir.Facts.{toZ-ofZ}
-use Rattle.answer.specs.declared.Rounded.{Rounded}
 use Rattle.answer.specs.Outcome.{refused, answered}
 use Rattle.elements.specs.Internal.{AtMost200}
-use Rattle.blend.specs.declared.Limits.{Limits}
 use Rattle.blend.specs.Blend.{shownLimits}
 use Rattle.blend.proofs.Masses.{mass-most}
-use Rattle.blend.proofs.Told.{pairOf, limits-refused, limits-answered}
+use Rattle.blend.proofs.Told.{pairOf, shownPair, limits-refused, limits-answered}
 use Rattle.limits.specs.FuelLimits.{fuelLimits}
 use Rattle.limits.specs.Concentration.{concentration, massConcentration}
 use Rattle.limits.specs.Internal.{rate}
@@ -56,19 +54,16 @@ rate-of-requires-2 c κs =
     let l = z .before .before .before .before .before in
     (light z, omega (arith, sized z, known z .1), l .fuel-limits-at .ensures .1 .0 .1)
 
-abbrev shown : Rounded → Rounded → Limits
-shown x y = shownLimits (answered (record { lower = x; upper = y }))
-
 -- both rates are handed on, each with its mark
-handed : (c : tie.After-limits-of) → c .limits-of .result ≡ shown (c .before .before .rate-of .result) (c .before .rate-of2 .result)
-handed c = c .limits-of .ensures
+handed : (c : tie.After-answered-limits) → c .answered-limits .result ≡ shownPair (c .before .before .rate-of .result) (c .before .rate-of2 .result)
+handed c = c .answered-limits .ensures
 
 returns-2 : tie.Need-returns-2
 unfolding massConcentration
 returns-2 c =
     let u = c .before in
     let z = u .before .before in
-    rw (pair (z .before .before)) (handed c ∙ ap₂ shown (u .before .rate-of .ensures ∙ rates z _) (u .rate-of2 .ensures ∙ rates z _))
+    rw (pair (z .before .before)) (handed c ∙ ap₂ shownPair (u .before .rate-of .ensures ∙ rates z _) (u .rate-of2 .ensures ∙ rates z _))
 
 pub mass-concentration-spec : {M : Type 1} → statement M
 mass-concentration-spec =

@@ -57,15 +57,15 @@ returns c =
     let q = c .before .before in
     answer _ _ _ (div-neg _ _ _ (quotient-is q) _ (negative (c .before)) (toZ-ofZ {z = c .negated .result} (search needs) ∙ c .negated .ensures))
 
-cast-t8 : tie.Need-cast-t8
-cast-t8 c =
-    let p = size-pos (n (c .before .before)) (not-negative (c .before)) in
-    record { sfits = omega (arith, quotient-le (c .before .before), ap mag p) }
+cast-t9 : tie.Need-cast-t9
+cast-t9 c =
+    let p = size-pos (n (c .before)) (not-negative c) in
+    record { sfits = omega (arith, quotient-le (c .before), ap mag p) }
 
 returns-2 : tie.Need-returns-2
-returns-2 c = answer _ _ _ (div-pos _ _ _ (quotient-is (c .before .before)) _ (not-negative (c .before)) (toZ-pos w64 (cast-t8 c .sfits)))
+returns-2 c = answer _ _ _ (div-pos _ _ _ (quotient-is (c .before)) _ (not-negative c) (toZ-pos w64 (cast-t9 c .sfits)))
 
 pub round-div-signed-spec : {M : Type 1} → statement M
 round-div-signed-spec =
     tie.close
-    (tie.spec size-requires round-div-requires negated-requires returns cast-t8 returns-2)
+    (tie.spec size-requires round-div-requires negated-requires returns cast-t9 returns-2)

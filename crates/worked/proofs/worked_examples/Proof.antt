@@ -11,15 +11,15 @@ use Rattle.csv.specs.Lines.{crlf, comma, lines, fields, before, all, plain}
 use Rattle.csv.specs.Sheet.{headed, records, formed, goodRecord}
 use Rattle.elements.specs.Elements.{firstAbove}
 use Rattle.formula.specs.Reader.{symbolOf, multipleOf, readItem, readItems}
-use Rattle.formula.specs.Reading.{reading}
+use Rattle.formula.specs.Reading.{reading, formulaRead}
 use Rattle.oxygen.specs.Beta.{beta}
 use Rattle.oxygen.specs.Admission.{notAdmitted, admission}
 use Rattle.oxygen.specs.Stoichiometric.{stoichiometric, stoichiometricFraction}
 use Rattle.blend.specs.Limit.{slope, constant, divisor, limitOf}
 use Rattle.blend.specs.Temperature.{correction}
 use Rattle.blend.specs.Fuel.{molarMass, admitting}
-use Rattle.blend.specs.Blend.{held, weight, sumWithin, within, taking, adding, blendLimit, telling, askingAs}
-use Rattle.limits.specs.FuelLimits.{fuelFigure, fuelLimits}
+use Rattle.blend.specs.Blend.{held, weight, sumWithin, within, taking, adding, blendLimit, telling, askingMarked}
+use Rattle.limits.specs.FuelLimits.{roundedFuelLimit, fuelLimits}
 use Rattle.limits.specs.Concentration.{molarVolume, concentration, massConcentration}
 use Rattle.bonds.specs.Kinds.{aboveAt, hydrogenUnbalanced}
 use Rattle.flash.specs.Tables.{coefficients, methods, classes}
@@ -34,13 +34,13 @@ use Rattle.worked.proofs.worked_examples.Statement.{statement}
 use Rattle.worked.proofs.worked_examples.Tie as tie
 
 returns : tie.Need-returns
-unfolding reading readItems readItem symbolOf multipleOf digitFrom firstAbove lowest outside
-    beta admission notAdmitted stoichiometricFraction stoichiometric slope constant divisor limitOf correction fuelFigure fuelLimits
+unfolding reading formulaRead readItems readItem symbolOf multipleOf digitFrom firstAbove lowest outside
+    beta admission notAdmitted stoichiometricFraction stoichiometric slope constant divisor limitOf correction roundedFuelLimit fuelLimits
     molarMass molarVolume concentration massConcentration roundedValue markOf roundDiv roundedValueℤ roundDivℤ _over_ whole _⊞_ _⊠_ _⊘_ rounded atMost
     aboveAt hydrogenUnbalanced Option·elim coefficients methods classes missing noCoefficientAt lineTerms bondTerm terms classTerms sumFrom byBonds byClass
     smallest searched sizes outOfRange rising badPoint firstBadPoint accepting between segmentOf pressureAt onCurve
     partOfPressure reaches withLimit lowerTemperatureLimit threshold product ignites withOxygen flashByCurve
-    admitting held weight sumWithin within taking adding blendLimit telling askingAs
+    admitting held weight sumWithin within taking adding blendLimit telling askingMarked
     crlf comma lines fields before all plain headed records formed goodRecord isParts spelledFrom addingAll sheetAnswer
     decimal percent limitsLine answerLine answerText
 returns c =
