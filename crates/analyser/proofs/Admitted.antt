@@ -10,8 +10,8 @@ use lib.Ieee.Positive.{num, den, den-pos}
 use borrow.Author.Tests.{leb-true}
 use Rattle.answer.proofs.Tests.{both}
 use Rattle.rounding.specs.Round.{roundedValue, roundDiv}
-use Rattle.rounding.specs.Fraction.{Fraction, _over_, whole, _⊠_, _⊑_, atMost, rounded, figure}
-use Rattle.rounding.proofs.Fractions.{Is, is-over, is-whole, is-times, at-most-is, at-most-values, at-most-trans, figure-mono}
+use Rattle.rounding.specs.Fraction.{Fraction, _over_, whole, _⊠_, _⊑_, atMost, rounded}
+use Rattle.rounding.proofs.Fractions.{Is, is-over, is-whole, is-times, at-most-is, at-most-values, at-most-trans, rounded-mono}
 use Rattle.analyser.specs.declared.Method.{Method}
 use Rattle.analyser.specs.Reading.{isAmount, amount, upTo, goodMethod}
 use Rattle.analyser.specs.Internal.{Top}
@@ -51,8 +51,8 @@ module _ (top : Float) (m : Method) (good : goodMethod (amount top) m ≡ true) 
       at-most-is (is-times (is-whole scale) (amount-is x)) (is-whole 1000000) (omega (arith, le-of-mul-le-mul-right l (den-pos top)))
 
 pub rounded-most : (f : Fraction) → f ⊑ whole 1000000 → rounded f .value ≤ 1000000
-unfolding figure rounded roundDiv roundedValue whole
-rounded-most f h = figure-mono h
+unfolding rounded roundDiv roundedValue whole
+rounded-most f h = rounded-mono h
 
 -- THE CODE'S CONSTANTS, by their bits
 pub hundred-is : amount (ofBits binary64 0x4059_0000_0000_0000) ≡ whole 100

@@ -9,8 +9,8 @@ use borrow.Author.Tests.{eqb-false}
 use Rattle.answer.specs.Numbers.{blendEmpty, gasTemperatureOutside}
 use Rattle.answer.specs.Outcome.{answered, valueOf}
 use Rattle.answer.proofs.Outcomes.{refuse-then, refuse-passed}
-use Rattle.rounding.specs.Fraction.{Fraction, whole, _⊠_, _⊑_, figure}
-use Rattle.rounding.proofs.Fractions.{is-whole, times-at-most, figure-mono}
+use Rattle.rounding.specs.Fraction.{Fraction, whole, _⊠_, _⊑_}
+use Rattle.rounding.proofs.Fractions.{is-whole, times-at-most, rounded-mono}
 use Rattle.blend.specs.Limit.{Side, lower, upper}
 use Rattle.blend.specs.Temperature.{meant, gasOutside}
 use Rattle.blend.specs.Blend.{Question, limits, LimitPair, Told, figuresOf}
@@ -51,8 +51,8 @@ module _ {q : Question} {quantity : Entries → Fraction} {figureIn : Told q →
 
 -- LIMITS
 limit-rises : (s : Side) (t : ℕ) (es fs : Entries) → limitAt s es t ⊑ limitAt s fs t → limitFigure s es t ≤ limitFigure s fs t
-unfolding roundedLimit figure
-limit-rises s t es fs l = figure-mono (times-at-most (whole 100) (is-whole 100 .den-pos) l)
+unfolding roundedLimit
+limit-rises s t es fs l = rounded-mono (times-at-most (whole 100) (is-whole 100 .den-pos) l)
 
 -- the figures of both
 abbrev limitFigures : Entries → ℕ → LimitPair ℕ

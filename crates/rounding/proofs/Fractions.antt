@@ -4,7 +4,7 @@ use Prim.Native.Nat.{ℕ, _+_, _*_, _≤_, _<_}
 use native.Mathlib.Nat.{mul-pos, mul-le-mul-right, le-of-mul-le-mul-right, eq-of-mul-eq-mul-right, lt-of-mul-lt-mul-right}
 use native.Mathlib.Omega.{arith}
 use Rattle.rounding.specs.Round.{roundDiv}
-use Rattle.rounding.specs.Fraction.{Fraction, _over_, whole, _⊞_, _⊠_, _⊘_, _⊑_, rounded, figure}
+use Rattle.rounding.specs.Fraction.{Fraction, _over_, whole, _⊞_, _⊠_, _⊘_, _⊑_, rounded}
 use Rattle.rounding.proofs.Rounding.{round-mono, div-same}
 
 -- f has the value n / d
@@ -94,6 +94,6 @@ pub rounded-is : {f : Fraction} {n d : ℕ} → Is f n d → rounded f ≡ round
 unfolding rounded
 rounded-is {f} {n} {d} i = div-same (f .num) (f .den) n d (i .den-pos) (i .pos) (i .cross)
 
-pub figure-mono : {f g : Fraction} → f ⊑ g → figure f ≤ figure g
-unfolding figure rounded roundDiv
-figure-mono {f} {g} h = round-mono (f .num) (f .den) (g .num) (g .den) (h .left-over) (h .right-over) (h .cross)
+pub rounded-mono : {f g : Fraction} → f ⊑ g → rounded f .value ≤ rounded g .value
+unfolding rounded roundDiv
+rounded-mono {f} {g} h = round-mono (f .num) (f .den) (g .num) (g .den) (h .left-over) (h .right-over) (h .cross)

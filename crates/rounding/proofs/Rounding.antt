@@ -10,10 +10,10 @@ use lib.Signed.{ltZ}
 use borrow.Author.Tests.{ltb-true}
 use Rattle.answer.specs.declared.Rounded.{Rounded}
 use Rattle.answer.specs.declared.RoundedSigned.{RoundedSigned}
-use Rattle.rounding.specs.Round.{roundedValue, markOf, roundDiv, roundedValueℤ, roundDivℤ}
+use Rattle.rounding.specs.Round.{roundedValue, markOf, roundDiv, roundDivℤ}
 use Rattle.rounding.specs.Rounds.{Nearest, Marked, is-exact, is-lowered, Rounds, Roundsℤ}
 use Rattle.rounding.proofs.Marks.{marked, marked-only, mark-alike}
-use Rattle.rounding.proofs.Signed.{size-flip, size-neg-is, neg-times, size-diff, size-diff-neg}
+use Rattle.rounding.proofs.Signed.{size-neg-is, neg-times, size-diff, size-diff-neg}
 
 -- the nearest number, and the only one
 pub nearest : (n d : ℕ) → 0 < d → Nearest n d (roundedValue n d)
@@ -95,71 +95,60 @@ rounds n d r e =
       by-zero = λ z. rw z (sym (div-by-zero n));
     })
 
--- of a signed number the size is rounded and the sign is kept
-round-neg : (z : ℤ) (d : ℕ) → ltZ z (pos 0) ≡ true → negℤ (pos (roundedValue (natAbs z) d)) ≡ roundedValueℤ z d
-unfolding roundedValueℤ
-round-neg (pos n) d h = absurd (omega (arith, ltb-true n 0 h))
-round-neg (negsuc n) d h = refl
-
-round-pos : (z : ℤ) (d : ℕ) → ltZ z (pos 0) ≡ false → pos (roundedValue (natAbs z) d) ≡ roundedValueℤ z d
-unfolding roundedValueℤ
-round-pos (pos n) d h = refl
-round-pos (negsuc n) d h = cc
-
-pub round-odd : (z : ℤ) (d : ℕ) → roundedValueℤ (negℤ z) d ≡ negℤ (roundedValueℤ z d)
-unfolding roundedValueℤ
-round-odd (pos zero) d = rw nothing
+-- SIGNED NUMBERS. −z is rounded as z, with the same mark.
+signed-odd : (z : ℤ) (d : ℕ) → roundDivℤ (negℤ z) d ≡ record { value = negℤ (roundDivℤ z d .value); mark = roundDivℤ z d .mark }
+unfolding roundDivℤ roundDiv
+signed-odd (pos zero) d = rw nothing
   where
     nothing : roundedValue zero d ≡ zero
     nothing = omega (arith, round-le zero d)
-round-odd (pos (suc n)) d = refl
-round-odd (negsuc n) d = sym (negℤ-negℤ (pos (roundedValue (suc n) d)))
+signed-odd (pos (suc n)) d = refl
+signed-odd (negsuc n) d = rw (negℤ-negℤ (pos (roundedValue (suc n) d)))
 
-pub round-size : (z : ℤ) (d : ℕ) → natAbs (roundedValueℤ z d) ≡ roundedValue (natAbs z) d
-unfolding roundedValueℤ
-round-size (pos n) d = refl
-round-size (negsuc n) d = size-neg-is (roundedValue (suc n) d)
+-- the size is that of z rounded, and so is the mark
+signed-size : (z : ℤ) (d : ℕ) → natAbs (roundDivℤ z d .value) ≡ roundDiv (natAbs z) d .value
+unfolding roundDivℤ
+signed-size (pos n) d = refl
+signed-size (negsuc n) d = size-neg-is (roundDiv (suc n) d .value)
+
+signed-marked : (z : ℤ) (d : ℕ) → 0 < d → Marked (natAbs z) d (natAbs (roundDivℤ z d .value)) (roundDivℤ z d .mark)
+unfolding roundDivℤ roundDiv
+signed-marked (pos n) d h = marked n d (roundedValue n d) h
+signed-marked (negsuc n) d h = rw (size-neg-is (roundedValue (suc n) d)) (marked (suc n) d (roundedValue (suc n) d) h)
 
 -- at most 1/2 away
-round-near : (z : ℤ) (d : ℕ) → 0 < d → 2 * natAbs (z -ℤ roundedValueℤ z d *ℤ pos d) ≤ d
-unfolding roundedValueℤ
-round-near (pos n) d h = omega (arith, size-diff n (roundedValue n d * d), nearest n d h)
-round-near (negsuc n) d h =
+signed-near : (z : ℤ) (d : ℕ) → 0 < d → 2 * natAbs (z -ℤ roundDivℤ z d .value *ℤ pos d) ≤ d
+unfolding roundDivℤ roundDiv
+signed-near (pos n) d h = omega (arith, size-diff n (roundedValue n d * d), nearest n d h)
+signed-near (negsuc n) d h =
     rw (neg-times (roundedValue (suc n) d) d)
     (omega (arith, size-diff-neg (suc n) (roundedValue (suc n) d * d), nearest (suc n) d h))
 
--- a size that was rounded, with the sign put back
-module _ (z : ℤ) (d : ℕ) (r : Rounded) (e : r ≡ roundDiv (natAbs z) d) (v : ℤ) where
-  with-sign : v ≡ roundedValueℤ z d → record { value = v; mark = r .mark } ≡ roundDivℤ z d
-  unfolding roundDivℤ
-  with-sign p = ap₂ (λ (x : ℤ) (m : ℕ). record { value = x; mark = m }) p (ap (λ (x : Rounded). x .mark) e)
-
-  pub div-neg : ltZ z (pos 0) ≡ true → v ≡ negℤ (pos (r .value)) → record { value = v; mark = r .mark } ≡ roundDivℤ z d
-  unfolding roundDiv
-  div-neg h p = with-sign (p ∙ ap (λ (x : Rounded). negℤ (pos (x .value))) e ∙ round-neg z d h)
-
-  pub div-pos : ltZ z (pos 0) ≡ false → v ≡ pos (r .value) → record { value = v; mark = r .mark } ≡ roundDivℤ z d
-  unfolding roundDiv
-  div-pos h p = with-sign (p ∙ ap (λ (x : Rounded). pos (x .value)) e ∙ round-pos z d h)
-
--- −z is rounded as z, with the same mark; by 0 nothing is left
-div-odd : (z : ℤ) (d : ℕ) → roundDivℤ (negℤ z) d ≡ record { value = negℤ (roundedValueℤ z d); mark = roundDiv (natAbs z) d .mark }
-unfolding roundDivℤ
-div-odd z d = rw (size-flip z, round-odd z d)
-
 signed-by-zero : (z : ℤ) → roundDivℤ z 0 ≡ record { value = pos 0; mark = 0 }
-unfolding roundDivℤ roundedValueℤ roundDiv markOf
-signed-by-zero (pos n) = rw (round-by-zero n)
-signed-by-zero (negsuc n) = rw (round-by-zero (suc n))
+unfolding roundDivℤ
+signed-by-zero (pos n) = rw (← div-by-zero n)
+signed-by-zero (negsuc n) = rw (← div-by-zero (suc n))
 
 pub roundsℤ : (z : ℤ) (d : ℕ) (r : RoundedSigned) → r ≡ roundDivℤ z d → Roundsℤ z d r
-unfolding roundDivℤ roundDiv
 roundsℤ z d r e =
     rw e
     (record {
-      near = round-near z d;
-      size = round-size z d;
-      marked = λ h. rw (round-size z d) (marked (natAbs z) d (roundedValue (natAbs z) d) h);
-      odd = div-odd z d;
+      near = signed-near z d;
+      size = signed-size z d;
+      marked = signed-marked z d;
+      odd = signed-odd z d;
       by-zero = λ h. rw h (signed-by-zero z);
     })
+
+-- a size that was rounded, with its mark, and the sign put back
+pub div-neg : (z : ℤ) (d : ℕ) (r : Rounded) → r ≡ roundDiv (natAbs z) d → (v : ℤ) → ltZ z (pos 0) ≡ true → v ≡ negℤ (pos (r .value)) →
+    record { value = v; mark = r .mark } ≡ roundDivℤ z d
+unfolding roundDivℤ
+div-neg (pos n) d r e v h p = absurd (omega (arith, ltb-true n 0 h))
+div-neg (negsuc n) d r e v h p = rw (p, e)
+
+pub div-pos : (z : ℤ) (d : ℕ) (r : Rounded) → r ≡ roundDiv (natAbs z) d → (v : ℤ) → ltZ z (pos 0) ≡ false → v ≡ pos (r .value) →
+    record { value = v; mark = r .mark } ≡ roundDivℤ z d
+unfolding roundDivℤ
+div-pos (pos n) d r e v h p = rw (p, e)
+div-pos (negsuc n) d r e v h p = cc

@@ -1,4 +1,4 @@
--- Exact fractions of whole numbers, with operations under names of their own, and the figure that one is answered as, with its mark.
+-- Exact fractions of whole numbers, with operations under names of their own, and the figure with its mark that one is answered as.
 -- A fraction over 0 stands for no number; no law speaks of one.
 use mathlib.Core.Path.{_≡_}
 use mathlib.Core.Bool.{Bool}
@@ -52,9 +52,6 @@ _≃_ f g = Compares (λ m n. m ≡ n) f g
 unfoldable pub atMost : Fraction → Fraction → Bool
 atMost f g = leb (f .num * g .den) (g .num * f .den)
 
--- the exact fraction rounded once, with its mark; and the figure alone
+-- the exact fraction rounded once, with its mark
 unfoldable pub rounded : Fraction → Rounded
 rounded f = roundDiv (f .num) (f .den)
-
-unfoldable pub figure : Fraction → ℕ
-figure f = rounded f .value

@@ -2,7 +2,7 @@
 use mathlib.Core.Bool.{cond}
 use Prim.Native.Nat.{ℕ, suc, _+_, _*_, _/_, _%_}
 use lib.Dec.{eqb, ltb}
-use lib.IntN.{ℤ, pos, negsuc, negℤ, natAbs}
+use lib.IntN.{ℤ, pos, negsuc, negℤ}
 use Rattle.answer.specs.declared.Rounded.{Rounded}
 use Rattle.answer.specs.declared.RoundedSigned.{RoundedSigned}
 use Rattle.answer.specs.Marks.{exact, raised, lowered}
@@ -25,9 +25,6 @@ unfoldable pub roundDiv : ℕ → ℕ → Rounded
 roundDiv n d = record { value = roundedValue n d; mark = markOf n d (roundedValue n d) }
 
 -- the same of a signed number: its size is rounded, its sign is kept, and the mark is that of its size
-unfoldable pub roundedValueℤ : ℤ → ℕ → ℤ
-roundedValueℤ (pos n) d = pos (roundedValue n d)
-roundedValueℤ (negsuc n) d = negℤ (pos (roundedValue (suc n) d))
-
 unfoldable pub roundDivℤ : ℤ → ℕ → RoundedSigned
-roundDivℤ z d = record { value = roundedValueℤ z d; mark = roundDiv (natAbs z) d .mark }
+roundDivℤ (pos n) d = let r = roundDiv n d in record { value = pos (r .value); mark = r .mark }
+roundDivℤ (negsuc n) d = let r = roundDiv (suc n) d in record { value = negℤ (pos (r .value)); mark = r .mark }

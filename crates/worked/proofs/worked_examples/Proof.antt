@@ -4,7 +4,7 @@ use mathlib.Core.Option.{Option·elim}
 use lib.ListN.{drop}
 use Rattle.answer.specs.Lowest.{lowest}
 use Rattle.answer.specs.Outside.{outside}
-use Rattle.rounding.specs.Round.{roundedValue, markOf, roundDiv, roundedValueℤ, roundDivℤ}
+use Rattle.rounding.specs.Round.{roundedValue, markOf, roundDiv, roundDivℤ}
 use Rattle.rounding.specs.Fraction.{_over_, whole, _⊞_, _⊠_, _⊘_, rounded, atMost}
 use Rattle.text.specs.Decimal.{decimal, digitFrom}
 use Rattle.csv.specs.Lines.{crlf, comma, lines, fields, before, all, plain}
@@ -36,7 +36,7 @@ use Rattle.worked.proofs.worked_examples.Tie as tie
 returns : tie.Need-returns
 unfolding reading formulaRead readItems readItem symbolOf multipleOf digitFrom firstAbove lowest outside
     beta admission notAdmitted stoichiometricFraction stoichiometric slope constant divisor limitOf correction roundedFuelLimit fuelLimits
-    molarMass molarVolume concentration massConcentration roundedValue markOf roundDiv roundedValueℤ roundDivℤ _over_ whole _⊞_ _⊠_ _⊘_ rounded atMost
+    molarMass molarVolume concentration massConcentration roundedValue markOf roundDiv roundDivℤ _over_ whole _⊞_ _⊠_ _⊘_ rounded atMost
     aboveAt hydrogenUnbalanced Option·elim coefficients methods classes missing noCoefficientAt lineTerms bondTerm terms classTerms sumFrom byBonds byClass
     smallest searched sizes outOfRange rising badPoint firstBadPoint accepting between segmentOf pressureAt onCurve
     partOfPressure reaches withLimit lowerTemperatureLimit threshold product ignites withOxygen flashByCurve
