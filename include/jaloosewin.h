@@ -1,7 +1,7 @@
 /* Jaloosewin: flammability figures. Numbers are whole; an answer is one struct.
 
-   In each answer refusal.number is 0 (JLW_NOT_REFUSED) where it was answered. Otherwise it is one of the numbers below, refusal.place says where, as each function
-   tells, 0 if it does not; every other number of the answer is 0, but for a refused adding or joining, which returns the blend as it was given.
+   In each answer refusal.number is 0 (JLW_NOT_REFUSED) where it was answered. Otherwise it is one of the numbers below, refusal.place says where, as each
+   function tells, 0 if it does not; every other number of the answer is 0, but for a refused adding or joining, which returns the blend as it was given.
 
    A text is its bytes and their number, which does not count a 0 behind them ("CH4" has 3): the pointer points to at least that many readable bytes, out to at
    least out_len writable ones. Where the number is 0 nothing is read or written, and the pointer may be NULL. Apart from that every function takes anything.
@@ -107,7 +107,7 @@ jlw_limits jlw_fuel_limits(const uint8_t *text, size_t text_len);
 /* The same at a temperature: CH4 at JLW_FIT_TEMPERATURE 454, raised, and 2732, lowered. Refusal 10 outside 0.00 to 200.00, after the fuel's. */
 jlw_limits jlw_fuel_limits_at(const uint8_t *text, size_t text_len, int64_t temperature);
 
-/* The mass concentrations of a fuel at both limits in 0.01 g/m3, for CH4 at 134.00 1983, raised, and 14841, lowered; refusals as for limits at a temperature.
+/* The mass concentrations of a fuel at both limits in 0.01 g/m3. CH4 at 134.00: 1983, raised, and 14841, lowered. Refusals as for limits at a temperature.
    They are worked from the limits as answered, and the marks speak of this last rounding only, as if those limits were exact. */
 jlw_limits jlw_mass_concentration(const uint8_t *text, size_t text_len, int64_t temperature);
 
@@ -119,7 +119,7 @@ jlw_limits jlw_mass_concentration(const uint8_t *text, size_t text_len, int64_t 
        jlw_blend b = jlw_empty_blend();
        b = jlw_add_fuel(b.total, b.lower, b.upper, (const uint8_t *)"C3H8", 4, 300000).blend;
        b = jlw_add_fuel(b.total, b.lower, b.upper, (const uint8_t *)"C2H6", 4, 700000).blend;
-       jlw_limits l = jlw_blend_limits(b.total, b.lower, b.upper);     258 and 1487 */
+       jlw_limits l = jlw_blend_limits(b.total, b.lower, b.upper);     258, raised, and 1487, lowered */
 
 /* A blend that took in nothing: three zeros. */
 jlw_blend jlw_empty_blend(void);

@@ -61,7 +61,8 @@ jlw_figure jlt_oxygen_coefficient(jlw_atoms fuel);
    1, 2, 3, 4, 8 with the record as their place, then 9. */
 jlw_limits jlt_sheet_answer(const uint8_t *sheet, size_t sheet_len);
 
-/* A sheet's answer as text: two lines, CRLF after each. The text's length, at most 76; bytes behind it stay. Refusal 17 where out is too short, and all of it stays. */
+/* A sheet's answer as text, without its marks: two lines, CRLF after each. Answers the text's length, at most 76; bytes behind it stay.
+   Refusal 17 where out is too short, and all of it stays. */
 jlw_written jlt_write_sheet_answer(jlw_refusal refusal, uint64_t lower, uint64_t upper, uint8_t *out, size_t out_len);
 
 #ifdef __cplusplus

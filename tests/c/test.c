@@ -242,6 +242,7 @@ static void test_limits(void)
     CHECK(same_limits(jlw_fuel_limits(TEXT("CH4")), jlw_fuel_limits_at(TEXT("CH4"), JLW_USUAL_TEMPERATURE)));
     CHECK(limits_are(jlw_fuel_limits_at(TEXT("C6H6"), JLW_FIT_TEMPERATURE), 143, 821, JLW_LOWERED, JLW_RAISED));
     CHECK(limits_are(jlw_fuel_limits(TEXT("C6H6")), 144, 816, JLW_RAISED, JLW_RAISED));
+    CHECK(limits_are(jlw_fuel_limits(TEXT("C2H6")), 286, 1661, JLW_LOWERED, JLW_RAISED));
     CHECK(limits_are(jlw_fuel_limits_at(TEXT("C7H8"), JLW_FIT_TEMPERATURE), 121, 743, JLW_RAISED, JLW_RAISED));
     CHECK(limits_refused(jlw_fuel_limits(TEXT("CO2")), 4, 0));
     CHECK(limits_refused(jlw_fuel_limits(TEXT("CHCl3")), 3, 8));
@@ -269,6 +270,7 @@ static void test_mass(void)
 {
     CHECK(limits_are(jlw_mass_concentration(TEXT("CH4"), 13400), 1983, 14841, JLW_RAISED, JLW_LOWERED));
     CHECK(limits_are(jlw_mass_concentration(TEXT("CH3Cl"), 2000), 11903, 72322, JLW_LOWERED, JLW_LOWERED));
+    CHECK(limits_are(jlw_mass_concentration(TEXT("CH4"), 20000), 1607, 13686, JLW_LOWERED, JLW_RAISED));
     CHECK(limits_refused(jlw_mass_concentration(TEXT("CH4"), INT64_MIN), 10, 0));
     CHECK(limits_refused(jlw_mass_concentration(TEXT("C201"), 0), 2, 1));
     CHECK(limits_are(jlw_fuel_limits_at(TEXT("C200H12O150N54Cl"), 0), 9, 93, JLW_LOWERED, JLW_RAISED));
@@ -335,6 +337,9 @@ static void test_exact_blends(void)
     CHECK(limits_are(limits_of(upper), 422, 2500, JLW_RAISED, JLW_EXACT));
     CHECK(same_limits(limits_of(join(upper, upper).blend), limits_of(upper)));
     CHECK(limits_are(limits_of_at(add(empty, "CH2O", 1000000).blend, 6966), 722, 5000, JLW_RAISED, JLW_EXACT));
+    CHECK(limits_are(limits_of_at(add(empty, "C25H51N", 1).blend, 2813), 30, 282, JLW_EXACT, JLW_LOWERED));
+    CHECK(limits_are(limits_of_at(add(empty, "C6H6", 1).blend, JLW_FIT_TEMPERATURE), 143, 821, JLW_LOWERED, JLW_RAISED));
+    CHECK(limits_are(limits_of(add(empty, "C2H6", 1).blend), 286, 1661, JLW_LOWERED, JLW_RAISED));
 }
 
 static void test_out_of_bounds(void)
@@ -374,6 +379,7 @@ static void test_bonds(void)
     bonds.count[0] = bonds.count[4] = bonds.count[17] = 1;
     bonds.count[3] = 5;
     CHECK(flash_is(jlt_flash_by_bonds(1, ethanol, bonds, 7840), 839, JLW_LOWERED));
+    CHECK(flash_is(jlt_flash_by_bonds(1, ethanol, bonds, 7500), 615, JLW_EXACT));
     CHECK(flash_is(jlt_flash_by_bonds(2, ethanol, bonds, 7840), 1336, JLW_RAISED));
     CHECK(flash_is(jlt_flash_by_bonds(3, ethanol, bonds, 7840), 1891, JLW_LOWERED));
     CHECK(flash_refused(jlt_flash_by_bonds(0, ethanol, bonds, 7840), 16, 0));
@@ -493,7 +499,7 @@ static void test_readings(void)
 static void test_counts(void)
 {
     jlw_blend empty = jlw_empty_blend(), bad = {1, 0, 0};
-    jlw_atoms dioxide = {{1, 0, 2}}, formaldehyde = {{1, 2, 1}}, many = {{1, 201}}, none = {{0}};
+    jlw_atoms dioxide = {{1, 0, 2}}, formaldehyde = {{1, 2, 1}}, amine = {{25, 51, 0, 1}}, many = {{1, 201}}, none = {{0}};
     CHECK(same_blend(jlt_add_fuel(empty, propane, 7).blend, add(empty, "C3H8", 7).blend));
     CHECK(blend_refused(jlt_add_fuel(empty, many, 7), 2, 2, empty));
     CHECK(blend_refused(jlt_add_fuel(empty, none, 7), 3, 1, empty));
@@ -502,6 +508,8 @@ static void test_counts(void)
     CHECK(blend_refused(jlt_add_fuel(bad, none, 1000001), 28, 0, bad));
     CHECK(limits_are(jlt_fuel_limits_at(methane, 13400), 414, 3099, JLW_LOWERED, JLW_LOWERED));
     CHECK(limits_are(jlt_fuel_limits_at(formaldehyde, 6966), 722, 5000, JLW_RAISED, JLW_EXACT));
+    CHECK(limits_are(jlt_fuel_limits_at(amine, 2813), 30, 282, JLW_EXACT, JLW_LOWERED));
+    CHECK(limits_are(jlt_fuel_limits_at(benzene, JLW_FIT_TEMPERATURE), 143, 821, JLW_LOWERED, JLW_RAISED));
     CHECK(limits_refused(jlt_fuel_limits_at(methane, 20001), 10, 0));
     CHECK(limits_refused(jlt_fuel_limits_at(dioxide, 20001), 4, 0));
     CHECK(figure_is(jlt_oxygen_coefficient(benzene), 30));
@@ -513,6 +521,7 @@ static void test_sheets(void)
 #define SHEET "formula,parts\r\nC3H8,300000\r\nC2H6,700000"
     CHECK(limits_are(jlt_sheet_answer(TEXT(SHEET)), 258, 1487, JLW_RAISED, JLW_LOWERED));
     CHECK(limits_are(jlt_sheet_answer(TEXT(SHEET "\r\n")), 258, 1487, JLW_RAISED, JLW_LOWERED));
+    CHECK(limits_are(jlt_sheet_answer(TEXT("formula,parts\r\nC2H6,1")), 286, 1661, JLW_LOWERED, JLW_RAISED));
     CHECK(limits_are(jlt_sheet_answer(TEXT("formula,parts\r\nC3H4,446418\r\nC3H5N,233105")), 250, 1442, JLW_EXACT, JLW_RAISED));
     CHECK(limits_are(jlt_sheet_answer(TEXT("formula,parts\r\nCH4,5857\r\nCH5N,25608")), 422, 2500, JLW_RAISED, JLW_EXACT));
     CHECK(limits_refused(jlt_sheet_answer(NO_TEXT), 15, 0));

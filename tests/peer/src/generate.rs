@@ -427,8 +427,8 @@ pub fn tie(random: &mut Random) -> (Blend, i64) {
     (Blend { total, lower, upper: 100_000 * share * factor as u64 }, 203 * factor - 78_700)
 }
 
-/// Quarters and temperature of every fuel with a limit of whole hundredths, for 151 quarters the lower and otherwise the upper; and of the only one with a half,
-/// 11 quarters, the lower.
+/// Quarters and temperature of every fuel with a limit of whole hundredths, for 151 quarters the lower and otherwise the upper; and of the only one with a
+/// half, 11 quarters, the lower.
 const EXACT_LIMITS: [(u64, i64); 9] =
     [(151, 2_813), (4, 6_966), (88, 16_507), (113, 13_056), (238, 6_154), (363, 7_981), (488, 2_703), (988, 16_913), (11, 15_959)];
 

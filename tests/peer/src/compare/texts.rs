@@ -9,7 +9,7 @@ use peer::rounding::{LOWERED, RAISED};
 use peer::{limits, refusal::refuse};
 
 const OF_FRACTIONS: Expected = &[("above 0", ALL)];
-/// At 20.00 no limit of a fuel is exact: neither 313 divides 25,000 * 1257.00, nor 7 50,000 * 807.00.
+/// At 20.00 no limit of a fuel is exact: 313 does not divide 25,000 * 125,700, nor does 7 divide 50,000 * 80,700.
 const OF_USUAL_LIMITS: Expected = &[("lower", &[RAISED, LOWERED]), ("upper", &[RAISED, LOWERED])];
 
 pub fn run(source: &mut Source) -> u64 {
