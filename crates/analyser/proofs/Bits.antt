@@ -137,12 +137,14 @@ module _ (x : Float) (factor twos : ℕ) (held : T (fits binary64 x)) (pre : Sca
       go (yes l) = omega (arith, r .lead l)
       go (no l) = omega (arith, h, r .bare (omega arith))
 
-  pub below-half : f + twos < 1012 → roundDiv size (2 ^ 63) ≡ parts
-  below-half h =
+  -- then the parts are rounded as any a / b below a half that is 0 where the bits are
+  pub below-half : f + twos < 1012 → (a b : ℕ) → 2 * a < b → (a ≡ 0 → size ≡ 0) → (0 < a → 0 < size) → roundDiv a b ≡ parts
+  below-half h a b half zero-only positive =
       let le : 64 + e ≤ 1074 = omega (arith, r .j-is, pre .scale .small-twos) in
       let lt : 2 * n * 2 ^ e < 2 ^ 1074 = lt-of-lt-of-le (shl-lt 64 e (omega (arith, n-lt))) (pow-mono le) in
-      none-alike size (2 ^ 63) (n * 2 ^ e) (2 ^ 1074) (omega arith) (subst (λ (z : ℕ). z < 2 ^ 1074) (mul-assoc 2 n (2 ^ e)) lt)
-      (λ z. ap (λ (q : ℕ). q * factor * 2 ^ e) (q-zero z) ∙ none) (λ l. mul-pos (mul-pos (q-positive l) (pre .scale .positive)) (pow-pos e))
+      none-alike a b (n * 2 ^ e) (2 ^ 1074) half (subst (λ (z : ℕ). z < 2 ^ 1074) (mul-assoc 2 n (2 ^ e)) lt)
+      (λ z. ap (λ (q : ℕ). q * factor * 2 ^ e) (q-zero (zero-only z)) ∙ none)
+      (λ l. mul-pos (mul-pos (q-positive (positive l)) (pre .scale .positive)) (pow-pos e))
       ∙ sym (rounded-is in-units)
     where
       none : 0 * factor * 2 ^ e ≡ 0

@@ -8,6 +8,7 @@ use lib.Ieee.Positive.{num, den}
 use Rattle.answer.specs.Numbers.{badReading}
 use Rattle.answer.specs.Outcome.{Outcome, refused, answered, refusal, refuse}
 use Rattle.answer.specs.declared.Rounded.{Rounded}
+use Rattle.answer.specs.Marks.{exact}
 use Rattle.rounding.specs.Fraction.{Fraction, _over_, whole, _⊠_, atMost, rounded}
 use Rattle.analyser.specs.declared.Method.{Method}
 use Rattle.analyser.specs.declared.Reading.{Reading}
@@ -37,9 +38,9 @@ methodOf limit ceiling = record { limit = limit; ceiling = ceiling }
 unfoldable pub goodMethod : Fraction → Method → Bool
 goodMethod top m = upTo (m .ceiling) top && upTo (m .limit) (amount (m .ceiling))
 
--- the parts of a reading of x units of `scale` parts: rounded from the exact value; below the limit they are 0, which is exact
+-- the parts of a reading of x units of `scale` parts: rounded from the exact value; below the limit 0, exactly
 unfoldable pub converted : ℕ → Method → Float → Rounded
-converted scale m x = cond (atMost (amount (m .limit)) (amount x)) (rounded (whole scale ⊠ amount x)) (rounded (whole 0))
+converted scale m x = cond (atMost (amount (m .limit)) (amount x)) (rounded (whole scale ⊠ amount x)) (record { value = 0; mark = exact })
 
 -- the answer to such a reading, by a method whose ceiling is at most `top`
 unfoldable pub measured : Fraction → ℕ → Method → Float → Outcome Rounded

@@ -54,7 +54,7 @@ fn whole_parts(x: f64, factor: u64, twos: u64) -> Rounded
     let bits = f64::to_bits(x) % 0x8000_0000_0000_0000;
     let exponent = bits / 0x10_0000_0000_0000;
     if exponent + twos < 1012 {
-        // Below half a part. So are the bits as a part of 2 ^ 63, and they are 0 for zero alone: both are rounded alike.
+        // Below half a part. bits / 2 ^ 63 is below a half too, and 0 only where x is, so both are rounded alike.
         return round_div(bits, 0x8000_0000_0000_0000);
     }
     let significand = bits % 0x10_0000_0000_0000 + 0x10_0000_0000_0000;
@@ -76,7 +76,10 @@ fn measure(method: Method, x: f64, top: f64, factor: u64, twos: u64) -> RoundedF
     if method.limit <= x {
         return answered_rounded(whole_parts(x, factor, twos));
     }
-    answered_rounded(round_div(0, 1))
+    answered_rounded(Rounded {
+        value: 0,
+        mark: answer::EXACT,
+    })
 }
 
 // The answer to an overload, whose method is in parts per million.

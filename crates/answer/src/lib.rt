@@ -32,6 +32,7 @@ pub struct Rounded {
     pub mark: u64,
 }
 
+// The same of a figure that may be negative.
 pub struct RoundedSigned {
     pub value: i64,
     pub mark: u64,

@@ -9,11 +9,11 @@ use borrow.Author.Tests.{eqb-false}
 use Rattle.answer.specs.Numbers.{blendEmpty, gasTemperatureOutside}
 use Rattle.answer.specs.Outcome.{answered, valueOf}
 use Rattle.answer.proofs.Outcomes.{refuse-then, refuse-passed}
-use Rattle.rounding.specs.Fraction.{Fraction, whole, _⊠_, _⊑_}
+use Rattle.rounding.specs.Fraction.{Fraction, whole, _⊑_}
 use Rattle.rounding.proofs.Fractions.{is-whole, times-at-most, rounded-mono}
 use Rattle.blend.specs.Limit.{Side, lower, upper}
 use Rattle.blend.specs.Temperature.{meant, gasOutside}
-use Rattle.blend.specs.Blend.{Question, limits, LimitPair, Told, figuresOf}
+use Rattle.blend.specs.Blend.{Question, limits, LimitPair, Told, withoutMarks}
 use Rattle.blend.specs.Model.{Entry, Entries, sum, total, limitAt, roundedLimit, limitFigure, modelTells, modelAsksMarked, modelAsks}
 use Rattle.blend.specs.Claims.{alone, AnswersAlone, Between, BetweenAlone}
 use Rattle.blend.proofs.Admitted.{AllAdmitted}
@@ -21,11 +21,11 @@ use Rattle.blend.proofs.Bracket.{Bracket, bracketed}
 
 -- a question that all entries are told an answer to, in which a figure rises with a quantity
 record Shows (q : Question) (quantity : Entries → Fraction) (figureIn : Told q → ℕ) (tell : Entries → Told q) : Type 0 where
-  tells : (es : Entries) → figuresOf q (modelTells es q) ≡ answered (tell es)
+  tells : (es : Entries) → withoutMarks q (modelTells es q) ≡ answered (tell es)
   rises : (es fs : Entries) → quantity es ⊑ quantity fs → figureIn (tell es) ≤ figureIn (tell fs)
 
 -- ANY QUESTION
-alone-asks : (e : Entry) (q : Question) → modelAsks (alone e) q ≡ figuresOf q (modelTells (alone e) q)
+alone-asks : (e : Entry) (q : Question) → modelAsks (alone e) q ≡ withoutMarks q (modelTells (alone e) q)
 unfolding modelAsksMarked sum
 alone-asks e q = refl
 
@@ -59,7 +59,7 @@ abbrev limitFigures : Entries → ℕ → LimitPair ℕ
 limitFigures es t = record { lower = limitFigure lower es t; upper = limitFigure upper es t }
 
 -- what a question is answered with over entries whose total is above zero
-tells-between : (es : Entries) → AllAdmitted es → 0 < total es → (q : Question) (x : Told q) → figuresOf q (modelTells es q) ≡ answered x → BetweenAlone q es x
+tells-between : (es : Entries) → AllAdmitted es → 0 < total es → (q : Question) (x : Told q) → withoutMarks q (modelTells es q) ≡ answered x → BetweenAlone q es x
 unfolding modelTells
 tells-between es known v (limits t) l h =
     let k = natAbs (meant t) in
@@ -73,5 +73,5 @@ tells-between es known v (limits t) l h =
 pub asks-between : (es : Entries) → AllAdmitted es → (q : Question) (x : Told q) → modelAsks es q ≡ answered x → BetweenAlone q es x
 unfolding modelAsksMarked
 asks-between es known q x h =
-    let some = refuse-passed blendEmpty 0 (eqb (total es) 0) (figuresOf q (modelTells es q)) x (sym (refuse-then blendEmpty 0 (eqb (total es) 0) _ _) ∙ h) in
+    let some = refuse-passed blendEmpty 0 (eqb (total es) 0) (withoutMarks q (modelTells es q)) x (sym (refuse-then blendEmpty 0 (eqb (total es) 0) _ _) ∙ h) in
     tells-between es known (pos-of-ne-zero (eqb-false (total es) 0 (some .0))) q x (some .1)

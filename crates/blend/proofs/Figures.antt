@@ -10,7 +10,7 @@ use Rattle.rounding.proofs.Fractions.{is-over, is-whole, is-times, is-same, rou
 use Rattle.blend.specs.Limit.{Side, lower, upper}
 use Rattle.blend.specs.declared.Blend.{Blend}
 use Rattle.blend.specs.Temperature.{correction}
-use Rattle.blend.specs.Blend.{sumOf, unit, held, blendLimit}
+use Rattle.blend.specs.Blend.{sumOf, unit, held, roundedBlendLimit}
 use Rattle.blend.specs.Internal.{Within, Rated}
 use Rattle.blend.proofs.LeChatelier.{from-sums-is}
 
@@ -19,15 +19,15 @@ corrected : (s : Side) (b : Blend) (y d n m : ℕ) → 0 < sumOf s b → 0 < d �
     → rounded (whole 100 ⊠ ((whole (b .total) ⊘ (held s b ⊘ whole 100)) ⊠ (y over d))) ≡ roundDiv n m
 corrected s b y d n m p h k e = rounded-is (is-same (is-times (is-whole 100) (is-times (from-sums-is s b p) (is-over y d h))) k e)
 
-pub lower-figure : (b : Blend) (t : ℕ) → 0 < b .lower → roundDiv (25000 * b .total * (127700 - t)) (313 * b .lower) ≡ blendLimit lower b t
-unfolding blendLimit correction
+pub lower-figure : (b : Blend) (t : ℕ) → 0 < b .lower → roundDiv (25000 * b .total * (127700 - t)) (313 * b .lower) ≡ roundedBlendLimit lower b t
+unfolding roundedBlendLimit correction
 lower-figure b t p = sym (go (127700 - t))
   where
     go : (y : ℕ) → rounded (whole 100 ⊠ ((whole (b .total) ⊘ (held lower b ⊘ whole 100)) ⊠ (y over 125200))) ≡ roundDiv (25000 * b .total * y) (313 * b .lower)
     go y = corrected lower b y 125200 (25000 * b .total * y) (313 * b .lower) p (omega arith) (omega arith) (omega arith)
 
-pub upper-figure : (b : Blend) (t : ℕ) → 0 < b .upper → roundDiv (50000 * b .total * (t + 78700)) (203 * b .upper) ≡ blendLimit upper b t
-unfolding blendLimit correction
+pub upper-figure : (b : Blend) (t : ℕ) → 0 < b .upper → roundDiv (50000 * b .total * (t + 78700)) (203 * b .upper) ≡ roundedBlendLimit upper b t
+unfolding roundedBlendLimit correction
 upper-figure b t p = sym (go (t + 78700))
   where
     go : (y : ℕ) → rounded (whole 100 ⊠ ((whole (b .total) ⊘ (held upper b ⊘ whole 100)) ⊠ (y over 81200))) ≡ roundDiv (50000 * b .total * y) (203 * b .upper)
@@ -39,13 +39,13 @@ unfolding roundDiv roundedValue
 small n d h l = round-mono n d 10000 1 h (omega arith) (omega arith)
 
 module _ (b : Blend) (t : ℕ) (w : Within b) (some : 0 < b .total) (warm : t ≤ 20000) where
-  pub lower-most : blendLimit lower b t .value ≤ 10000
+  pub lower-most : roundedBlendLimit lower b t .value ≤ 10000
   lower-most =
       let cold : 127700 - t ≤ 127700 = omega arith in
       let m = mul-le-mul-left (b .total) cold in
       rw (← lower-figure b t (omega arith)) (small _ _ (omega arith) (omega arith))
 
-  pub upper-most : blendLimit upper b t .value ≤ 10000
+  pub upper-most : roundedBlendLimit upper b t .value ≤ 10000
   upper-most =
       let hot : t + 78700 ≤ 98700 = omega arith in
       let m = mul-le-mul-left (b .total) hot in
@@ -61,10 +61,3 @@ module _ {scale v factor divisor x : ℕ} (r : Rated scale v factor divisor x) w
 
   pub rated-products : (scale * v ≤ 50000 * 1000000) × (scale * v * factor ≤ 50000 * 1000000 * 127700) × (divisor * x ≤ 313 * 10000000000000)
   rated-products = (scaled, mul-le-mul scaled (r .factor-most), mul-le-mul (r .divisor-most) (r .sum-most))
-
-module _ (b : Blend) (t : ℕ) (w : Within b) (l : t ≤ 20000) where
-  pub lower-rated : Rated 25000 (b .total) (127700 - t) 313 (b .lower)
-  lower-rated = omega arith
-
-  pub upper-rated : Rated 50000 (b .total) (t + 78700) 203 (b .upper)
-  upper-rated = omega arith

@@ -14,7 +14,7 @@ use Rattle.blend.specs.Limit.{Side, lower, upper}
 use Rattle.blend.specs.declared.Blend.{Blend}
 use Rattle.blend.specs.Temperature.{meant, correction, OneAtFit}
 use Rattle.blend.specs.Fuel.{quarters}
-use Rattle.blend.specs.Blend.{Question, limits, sumOf, unit, held, blendLimit}
+use Rattle.blend.specs.Blend.{Question, limits, sumOf, unit, held, roundedBlendLimit}
 use Rattle.blend.specs.Model.{Entry, Entries, sum, total, fuelLimit, shares, leChatelier, limitAt, roundedLimit, modelTells, modelAsksMarked}
 use Rattle.blend.proofs.Weights.{unit-positive, limit-is, weight-positive}
 use Rattle.blend.proofs.Sums.{weighs, blendOf, Times}
@@ -74,8 +74,8 @@ module _ (s : Side) where
     pub same-at : {f g : Fraction} {n d : ℕ} → Is f n d → Is g n d → rounded (whole 100 ⊠ (f ⊠ correction s t)) ≡ rounded (whole 100 ⊠ (g ⊠ correction s t))
     same-at i j = rounded-is (is-times (is-whole 100) (is-times i (correction-is s t))) ∙ sym (rounded-is (is-times (is-whole 100) (is-times j (correction-is s t))))
 
-    pub blend-limit : (es : Entries) → 0 < total es → blendLimit s (blendOf es) t ≡ roundedLimit s es t
-    unfolding blendLimit roundedLimit limitAt
+    pub blend-limit : (es : Entries) → 0 < total es → roundedBlendLimit s (blendOf es) t ≡ roundedLimit s es t
+    unfolding roundedBlendLimit roundedLimit limitAt
     blend-limit es h =
         let w : 0 < sum (weighs s) es = omega (arith, total-weighs es) in
         same-at (rw (sum-held s es) at (from-sums-is (blendOf es) (rw (sum-held s es) w))) (le-chatelier-is es h)

@@ -15,7 +15,7 @@ use Rattle.blend.specs.Limit.{lower, upper}
 use Rattle.blend.specs.declared.Blend.{Blend}
 use Rattle.blend.specs.Temperature.{meant}
 use Rattle.blend.specs.Fuel.{Fuel, admitting, quarters}
-use Rattle.blend.specs.Blend.{emptyBlend, within, withFuel, taking, adding, together, joining, Question, limits, telling, askingMarked, figuresOf, asking}
+use Rattle.blend.specs.Blend.{emptyBlend, within, withFuel, taking, adding, together, joining, Question, limits, telling, askingMarked, withoutMarks, asking}
 use Rattle.blend.specs.Internal.{Within}
 use Rattle.blend.specs.Calls.{Call, answerTo}
 use Rattle.blend.specs.Model.{entry, Entries, sum, total, modelAdds, modelJoins, modelTells, modelAsksMarked, modelAsks, model}
@@ -97,7 +97,7 @@ marked-alike b es h q = go (eqb (total es) 0) refl
     go false e = rw (h .is, within-test (blendOf es) (h .fit), e) (tells-alike es (pos-of-ne-zero (eqb-false (total es) 0 e)) q)
 
 asks-alike : (b : Blend) (es : Entries) → Represents b es → (q : Question) → asking b q ≡ modelAsks es q
-asks-alike b es h q = ap (figuresOf q) (marked-alike b es h q)
+asks-alike b es h q = ap (withoutMarks q) (marked-alike b es h q)
 
 -- EVERY LIST OF CALLS
 follows : Follows Represents keeper model

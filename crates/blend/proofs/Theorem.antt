@@ -4,7 +4,7 @@ use mathlib.Core.List.{List, List·Permᴰ}
 use Prim.Native.Nat.{ℕ, _≤_, _<_}
 use native.Mathlib.Omega.{arith}
 use lib.Dec.{ltb}
-use Rattle.blend.specs.Blend.{Question, askingMarked, figuresOf, asking}
+use Rattle.blend.specs.Blend.{Question, askingMarked, withoutMarks, asking}
 use Rattle.blend.specs.Calls.{Call, add, join}
 use Rattle.blend.specs.Model.{Entry, Entries, sum, total, modelAsksMarked, modelAsks}
 use Rattle.blend.specs.Claims.{blends, entries, blendAnswers, isRefused, refusedSomewhere, Different, Route, ownAnswers, Claims}
@@ -34,8 +34,8 @@ module _ (calls : List Call) where
   marks-alike = record {
     by-entries = by-model calls;
     alike = λ others i j p. blends-times others i j 1 (omega arith) (times-one (entries calls i) (entries others j) (λ f. sum-perm f p));
-    multiplied = λ others i j k h p. blends-times others i j k h (times-scaled k (entries others j) p);
-    routes = route-left;
+    multiplied = λ others i j k h p. blends-times others i j k (omega arith) (times-scaled k (entries others j) p);
+    routes = λ all bs es w d r p h. route-left all bs es w d r p (omega arith);
   }
 
 -- THE CLAIM is of the figures in those answers.
@@ -47,7 +47,7 @@ routes-refused calls d r p =
 pub claims : (calls : List Call) → Claims calls
 claims calls =
     let marks = marks-alike calls in
-    let by-entries : (i : ℕ) (q : Question) → asking (blends calls i) q ≡ modelAsks (entries calls i) q = λ i q. ap (figuresOf q) (marks .by-entries i q) in
+    let by-entries : (i : ℕ) (q : Question) → asking (blends calls i) q ≡ modelAsks (entries calls i) q = λ i q. ap (withoutMarks q) (marks .by-entries i q) in
     record {
       answered = all-alike calls;
       next = next-alike calls;
@@ -57,7 +57,7 @@ claims calls =
       in-bounds = in-bounds calls;
       zero-parts = zero-changes calls;
       between = λ i q x h. asks-between (entries calls i) (all-admitted calls i) q x (sym (by-entries i q) ∙ h);
-      alike = λ others i j p q. ap (figuresOf q) (marks .alike others i j p q);
-      multiplied = λ others i j k h p q. ap (figuresOf q) (marks .multiplied others i j k h p q);
-      routes = λ all bs es w d r p. (routes-refused calls d r p, λ h q. ap (figuresOf q) (marks .routes all bs es w d r p h q));
+      alike = λ others i j p q. ap (withoutMarks q) (marks .alike others i j p q);
+      multiplied = λ others i j k h p q. ap (withoutMarks q) (marks .multiplied others i j k (omega arith) p q);
+      routes = λ all bs es w d r p. (routes-refused calls d r p, λ h q. ap (withoutMarks q) (marks .routes all bs es w d r p (omega arith) q));
     }

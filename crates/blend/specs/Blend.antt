@@ -5,7 +5,7 @@ use Prim.Native.Nat.{ℕ, _+_, _*_}
 use lib.Dec.{leb, ltb, eqb}
 use lib.IntN.{ℤ, natAbs}
 use Rattle.answer.specs.Numbers.{totalTooLarge, blendEmpty, gasTemperatureOutside, blendOutOfBounds}
-use Rattle.answer.specs.Outcome.{Outcome, answered, refuse, refusalOf, valueOf, andThen, noFigure}
+use Rattle.answer.specs.Outcome.{Outcome, refused, answered, refuse, refusalOf, valueOf, andThen, unless, noFigure}
 use Rattle.answer.specs.declared.Rounded.{Rounded}
 use Rattle.rounding.specs.Fraction.{Fraction, _over_, whole, _⊠_, _⊘_, rounded}
 use Rattle.elements.specs.declared.Atoms.{Atoms}
@@ -88,25 +88,31 @@ pub data Question : Type 0 where
   -- both limits at a temperature in hundredths of a degree, or with none named
   limits : Option ℤ → Question
 
--- both limits, of each an A
+-- both limits, with an A for each
 pub record LimitPair (A : Type 0) : Type 0 where
   pub lower : A
   pub upper : A
 
--- what a question is answered with, each rounded figure with its mark
+-- what a question is answered with, with an A for each figure: rounded figures with their marks; and figures alone, which the claim speaks of
+abbrev pub ToldAs : Type 0 → Question → Type 0
+ToldAs A (limits t) = LimitPair A
+
 abbrev pub ToldMarked : Question → Type 0
-ToldMarked (limits t) = LimitPair Rounded
+ToldMarked q = ToldAs Rounded q
+
+abbrev pub Told : Question → Type 0
+Told q = ToldAs ℕ q
 
 -- V / Σ (v / limit) at t, where v / limit is v (aβ + b) / 100; in hundredths of a percent
-unfoldable pub blendLimit : Side → Blend → ℕ → Rounded
-blendLimit s b t = rounded (whole 100 ⊠ ((whole (b .total) ⊘ (held s b ⊘ whole 100)) ⊠ correction s t))
+unfoldable pub roundedBlendLimit : Side → Blend → ℕ → Rounded
+roundedBlendLimit s b t = rounded (whole 100 ⊠ ((whole (b .total) ⊘ (held s b ⊘ whole 100)) ⊠ correction s t))
 
-abbrev pub limitsAt : Blend → ℕ → LimitPair Rounded
-limitsAt b t = record { lower = blendLimit lower b t; upper = blendLimit upper b t }
+abbrev pub roundedBlendLimits : Blend → ℕ → LimitPair Rounded
+roundedBlendLimits b t = record { lower = roundedBlendLimit lower b t; upper = roundedBlendLimit upper b t }
 
 -- of a blend that is not empty
 unfoldable pub telling : Blend → (q : Question) → Outcome (ToldMarked q)
-telling b (limits t) = refuse gasTemperatureOutside 0 (gasOutside (meant t)) (answered (limitsAt b (natAbs (meant t))))
+telling b (limits t) = refuse gasTemperatureOutside 0 (gasOutside (meant t)) (answered (roundedBlendLimits b (natAbs (meant t))))
 
 unfoldable pub askingMarked : Blend → (q : Question) → Outcome (ToldMarked q)
 askingMarked b q =
@@ -114,18 +120,15 @@ askingMarked b q =
     (refuse blendEmpty 0 (eqb (b .total) 0)
     (telling b q))
 
--- THE FIGURES of an answer, without the marks: the claim speaks of these
-abbrev pub Told : Question → Type 0
-Told (limits t) = LimitPair ℕ
-
+-- the same without the marks
 abbrev pub figuresIn : (q : Question) → ToldMarked q → Told q
 figuresIn (limits t) l = record { lower = l .lower .value; upper = l .upper .value }
 
-abbrev pub figuresOf : (q : Question) → Outcome (ToldMarked q) → Outcome (Told q)
-figuresOf q o = andThen o (λ x. answered (figuresIn q x))
+abbrev pub withoutMarks : (q : Question) → Outcome (ToldMarked q) → Outcome (Told q)
+withoutMarks q o = andThen o (λ x. answered (figuresIn q x))
 
 abbrev pub asking : Blend → (q : Question) → Outcome (Told q)
-asking b q = figuresOf q (askingMarked b q)
+asking b q = withoutMarks q (askingMarked b q)
 
 -- BOTH LIMITS as they are answered: with a refusal all is 0
 abbrev pub noLimits : LimitPair Rounded
@@ -135,3 +138,7 @@ abbrev pub shownLimits : Outcome (LimitPair Rounded) → Limits
 shownLimits o =
     let l = valueOf noLimits o in
     record { refusal = refusalOf o; lower = l .lower .value; upper = l .upper .value; «lower_mark» = l .lower .mark; «upper_mark» = l .upper .mark }
+
+-- what such an answer tells but for the marks: its refusal, or its two limits
+abbrev pub limitsTold : Limits → Outcome (LimitPair ℕ)
+limitsTold r = unless (r .refusal) (refused (r .refusal)) (answered (record { lower = r .lower; upper = r .upper }))

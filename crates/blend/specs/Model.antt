@@ -11,7 +11,7 @@ use Rattle.elements.specs.declared.Atoms.{Atoms}
 use Rattle.blend.specs.Limit.{Side, lower, upper, limitOf}
 use Rattle.blend.specs.Temperature.{meant, gasOutside, correction}
 use Rattle.blend.specs.Fuel.{Fuel, admitting, quarters}
-use Rattle.blend.specs.Blend.{Question, limits, LimitPair, ToldMarked, Told, figuresOf}
+use Rattle.blend.specs.Blend.{Question, limits, LimitPair, ToldMarked, Told, withoutMarks}
 use Rattle.blend.specs.Calls.{Keeper}
 
 -- an entry: a fuel, known by its atom counts, and its parts
@@ -74,7 +74,7 @@ modelAsksMarked es q = refuse blendEmpty 0 (eqb (total es) 0) (modelTells es q)
 
 -- without the marks
 abbrev pub modelAsks : Entries → (q : Question) → Outcome (Told q)
-modelAsks es q = figuresOf q (modelAsksMarked es q)
+modelAsks es q = withoutMarks q (modelAsksMarked es q)
 
 abbrev pub model : Keeper Entries
 model = record { adds = modelAdds; joins = modelJoins; asks = modelAsks }

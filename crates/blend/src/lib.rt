@@ -11,7 +11,7 @@ ghost use Rattle.elements.specs.Elements.{each, firstAbove, weightedSum};
 ghost use Rattle.blend.specs.Limit.{lower, upper};
 ghost use Rattle.blend.specs.Temperature.{OneAtFit};
 ghost use Rattle.blend.specs.Fuel.{counts, text as fuel-text, admitting, molarMass, masses, InHalves};
-ghost use Rattle.blend.specs.Blend.{emptyBlend, weight, within, withFuel, together, taking, adding, joining, limits as asked-limits, askingMarked, limitsAt, shownBlend, shownLimits};
+ghost use Rattle.blend.specs.Blend.{emptyBlend, weight, within, withFuel, together, taking, adding, joining, limits as asked-limits, askingMarked, asking, roundedBlendLimits, shownBlend, shownLimits, limitsTold};
 ghost use Rattle.blend.specs.Calls.{Call};
 ghost use Rattle.blend.specs.Claims.{Claims};
 ghost use Rattle.blend.specs.Marks.{MarksAlike};
@@ -215,7 +215,7 @@ fn rated(scale: u64, v: u64, factor: u64, divisor: u64, x: u64) -> Rounded
 // Both limits at an admitted temperature, of a blend that is not empty.
 fn limits_from(b: Blend, t: u64) -> Limits
     requires { ⌜ Within b × (0 < b .total) × (t ≤ 20000) ⌝ }
-    ensures { λ r. ⌜ r ≡ shownLimits (answered (limitsAt b t)) ⌝ }
+    ensures { λ r. ⌜ r ≡ shownLimits (answered (roundedBlendLimits b t)) ⌝ }
 {
     let lower = rated(25000, b.total, 127700 - t, 313, b.lower);
     let upper = rated(50000, b.total, t + 78700, 203, b.upper);
@@ -282,6 +282,7 @@ pub fn blend_limits_at(b: Blend, temperature: i64) -> Limits
     ensures { λ r. ⌜ r ≡ shownLimits (askingMarked b (asked-limits (some temperature))) ⌝ }
     ensures at_most { λ r. ⌜ (r .lower ≤ 10000) × (r .upper ≤ 10000) ⌝ }
     ensures at_fit { λ _. ⌜ OneAtFit ⌝ }
+    ensures in_claim { λ r. ⌜ limitsTold r ≡ asking b (asked-limits (some temperature)) ⌝ }
 {
     if !is_within(b) {
         return no_limits(answer::BLEND_OUT_OF_BOUNDS, 0);
@@ -299,6 +300,7 @@ pub fn blend_limits_at(b: Blend, temperature: i64) -> Limits
 pub fn blend_limits(b: Blend) -> Limits
     ensures { λ r. ⌜ r ≡ shownLimits (askingMarked b (asked-limits none)) ⌝ }
     ensures at_most { λ r. ⌜ (r .lower ≤ 10000) × (r .upper ≤ 10000) ⌝ }
+    ensures in_claim { λ r. ⌜ limitsTold r ≡ asking b (asked-limits none) ⌝ }
 {
     blend_limits_at(b, USUAL_TEMPERATURE)
 }

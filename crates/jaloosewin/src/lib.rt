@@ -13,7 +13,7 @@ ghost use Rattle.oxygen.specs.Admission.{oxygenCoefficient};
 ghost use Rattle.oxygen.specs.Stoichiometric.{stoichiometricFraction};
 ghost use Rattle.blend.specs.Temperature.{OneAtFit};
 ghost use Rattle.blend.specs.Fuel.{text as fuel-text};
-ghost use Rattle.blend.specs.Blend.{blend as blend-of, emptyBlend, adding, joining, limits as asked-limits, askingMarked, shownBlend, shownLimits};
+ghost use Rattle.blend.specs.Blend.{blend as blend-of, emptyBlend, adding, joining, limits as asked-limits, askingMarked, asking, shownBlend, shownLimits, limitsTold};
 ghost use Rattle.blend.specs.Calls.{Call};
 ghost use Rattle.blend.specs.Claims.{Claims};
 ghost use Rattle.blend.specs.Marks.{MarksAlike};
@@ -178,6 +178,7 @@ pub extern "C" fn jlw_join_blends(
 pub extern "C" fn jlw_blend_limits(total: u64, lower: u64, upper: u64) -> Limits
     ensures { λ r. ⌜ r ≡ shownLimits (askingMarked (blend-of total lower upper) (asked-limits none)) ⌝ }
     ensures at_most { λ r. ⌜ (r .lower ≤ 10000) × (r .upper ≤ 10000) ⌝ }
+    ensures in_claim { λ r. ⌜ limitsTold r ≡ asking (blend-of total lower upper) (asked-limits none) ⌝ }
 {
     blend::blend_limits(Blend {
         total,
@@ -196,6 +197,7 @@ pub extern "C" fn jlw_blend_limits_at(
     ensures { λ r. ⌜ r ≡ shownLimits (askingMarked (blend-of total lower upper) (asked-limits (some temperature))) ⌝ }
     ensures at_most { λ r. ⌜ (r .lower ≤ 10000) × (r .upper ≤ 10000) ⌝ }
     ensures at_fit { λ _. ⌜ OneAtFit ⌝ }
+    ensures in_claim { λ r. ⌜ limitsTold r ≡ asking (blend-of total lower upper) (asked-limits (some temperature)) ⌝ }
 {
     blend::blend_limits_at(
         Blend {

@@ -29,8 +29,8 @@ pub divided-by-zero : (n : ℕ) → record { quotient = 0; remainder = n } ≡ d
 divided-by-zero n = divided-is n 0 0 n (sym (div-zero n)) (sym (mod-zero n))
 
 -- doubled k times more, and a doubling taken back
-doublings-raised : (d k m : ℕ) → Doublings d m → Doublings d (m * 2 ^ k)
-doublings-raised d k m p =
+doublings-grown : (d k m : ℕ) → Doublings d m → Doublings d (m * 2 ^ k)
+doublings-grown d k m p =
     record {
       times = p .times + k;
       is = ap (λ (z : ℕ). z * 2 ^ k) (p .is) ∙ mul-assoc d (2 ^ p .times) (2 ^ k) ∙ ap (λ (z : ℕ). d * z) (sym (pow-add 2 (p .times) k));
@@ -51,14 +51,14 @@ doubled-none w n d f h k =
     record { doublings = record { times = 0; is = sym (mul-one d) }; at-most = k; above = omega (arith, mul-le-mul-right (2 ^ w) h) }
 
 -- doubled k times more where that is at most n, which loses no bit below a bound above n; else kept
-pub doubled-raised : (bound n d k m r : ℕ) → n < bound → Doubled n d (k + k) m → r ≡ cond (leb m (n / 2 ^ k)) (m * 2 ^ k % bound) m → Doubled n d k r
-doubled-raised bound n d k m r f p e = rw e (cases (leb m (n / 2 ^ k)) refl)
+pub doubled-grown : (bound n d k m r : ℕ) → n < bound → Doubled n d (k + k) m → r ≡ cond (leb m (n / 2 ^ k)) (m * 2 ^ k % bound) m → Doubled n d k r
+doubled-grown bound n d k m r f p e = rw e (cases (leb m (n / 2 ^ k)) refl)
   where
     cases : (b : Bool) → leb m (n / 2 ^ k) ≡ b → Doubled n d k (cond b (m * 2 ^ k % bound) m)
     cases true t =
         let l : m * 2 ^ k ≤ n = le-div-iff-mul-le (pow-pos k) .0 (leb-true m (n / 2 ^ k) t) in
         let g : m * 2 ^ k % bound ≡ m * 2 ^ k = mod-eq-of-lt (omega (arith, l)) in
-        rw g (record { doublings = doublings-raised d k m (p .doublings); at-most = l; above = rw (mul-assoc, ← pow-add 2 k k) (p .above) })
+        rw g (record { doublings = doublings-grown d k m (p .doublings); at-most = l; above = rw (mul-assoc, ← pow-add 2 k k) (p .above) })
     cases false t = record { doublings = p .doublings; at-most = p .at-most; above = div-lt-iff-lt-mul (pow-pos k) .0 (leb-false m (n / 2 ^ k) t) }
 
 -- n is q m + r with r below m, and m is d doubled some times

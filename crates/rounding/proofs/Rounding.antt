@@ -2,7 +2,7 @@
 use mathlib.Core.Path.{_≡_, refl, sym, ap, ap₂, _∙_}
 use mathlib.Core.Bool.{true, false}
 use Prim.Native.Nat.{ℕ, zero, suc, _+_, _*_, _/_, _≤_, _<_}
-use native.Mathlib.Nat.{mul-le-mul-left, mul-le-mul-right, le-of-mul-le-mul-right, le-antisymm, le-of-eq}
+use native.Mathlib.Nat.{mul-pos, mul-le-mul-left, mul-le-mul-right, le-of-mul-le-mul-right, le-antisymm, le-of-eq}
 use native.Mathlib.Nat.{div-zero, div-mul-le-self, lt-div-mul-add, div-eq-of-lt-le, le-div-iff-mul-le}
 use native.Mathlib.Omega.{arith}
 use lib.IntN.{ℤ, pos, negsuc, negℤ, negℤ-negℤ, natAbs, _-ℤ_, _*ℤ_}
@@ -13,10 +13,10 @@ use Rattle.answer.specs.declared.RoundedSigned.{RoundedSigned}
 use Rattle.rounding.specs.Round.{roundedValue, markOf, roundDiv, roundDivℤ}
 use Rattle.rounding.specs.Rounds.{Nearest, Marked, is-exact, is-lowered, Rounds, Roundsℤ}
 use Rattle.rounding.proofs.Marks.{marked, marked-only, mark-alike}
-use Rattle.rounding.proofs.Signed.{size-neg-is, neg-times, size-diff, size-diff-neg}
+use Rattle.rounding.proofs.Signed.{size-neg-is, pos-not-neg, neg-times, size-diff, size-diff-neg}
 
 -- the nearest number, and the only one
-pub nearest : (n d : ℕ) → 0 < d → Nearest n d (roundedValue n d)
+nearest : (n d : ℕ) → 0 < d → Nearest n d (roundedValue n d)
 unfolding roundedValue
 nearest n d h =
     let p : 0 < 2 * d = omega arith in
@@ -25,11 +25,11 @@ nearest n d h =
       high = omega (arith, lt-div-mul-add {a = 2 * n + d} p);
     }
 
-pub nearest-is : (n d r : ℕ) → Nearest n d r → r ≡ roundedValue n d
+nearest-is : (n d r : ℕ) → Nearest n d r → r ≡ roundedValue n d
 unfolding roundedValue
 nearest-is n d r t = sym (div-eq-of-lt-le (2 * d) (omega arith) (omega arith))
 
-pub round-by-zero : (n : ℕ) → roundedValue n 0 ≡ 0
+round-by-zero : (n : ℕ) → roundedValue n 0 ≡ 0
 unfolding roundedValue
 round-by-zero n = div-zero (2 * n + 0)
 
@@ -43,11 +43,11 @@ round-mono a b c d hb hd h =
     let k : 0 < 2 * d = omega arith in
     le-div-iff-mul-le k .1 (le-of-mul-le-mul-right q hb)
 
-pub round-same : (a b c d : ℕ) → 0 < b → 0 < d → a * d ≡ c * b → roundedValue a b ≡ roundedValue c d
+round-same : (a b c d : ℕ) → 0 < b → 0 < d → a * d ≡ c * b → roundedValue a b ≡ roundedValue c d
 round-same a b c d hb hd h = le-antisymm (round-mono a b c d hb hd (le-of-eq h)) (round-mono c d a b hd hb (le-of-eq (sym h)))
 
 -- it makes no number larger
-pub round-le : (n d : ℕ) → roundedValue n d ≤ n
+round-le : (n d : ℕ) → roundedValue n d ≤ n
 unfolding roundedValue
 round-le n zero = omega (arith, round-by-zero n)
 round-le n (suc d) = omega (arith, round-mono n (suc d) n 1 (omega arith) (omega arith) (mul-le-mul-left n (omega arith)))
@@ -107,9 +107,9 @@ signed-odd (negsuc n) d = rw (negℤ-negℤ (pos (roundedValue (suc n) d)))
 
 -- the size is that of z rounded, and so is the mark
 signed-size : (z : ℤ) (d : ℕ) → natAbs (roundDivℤ z d .value) ≡ roundDiv (natAbs z) d .value
-unfolding roundDivℤ
+unfolding roundDivℤ roundDiv
 signed-size (pos n) d = refl
-signed-size (negsuc n) d = size-neg-is (roundDiv (suc n) d .value)
+signed-size (negsuc n) d = size-neg-is (roundedValue (suc n) d)
 
 signed-marked : (z : ℤ) (d : ℕ) → 0 < d → Marked (natAbs z) d (natAbs (roundDivℤ z d .value)) (roundDivℤ z d .mark)
 unfolding roundDivℤ roundDiv
@@ -124,10 +124,22 @@ signed-near (negsuc n) d h =
     rw (neg-times (roundedValue (suc n) d) d)
     (omega (arith, size-diff-neg (suc n) (roundedValue (suc n) d * d), nearest (suc n) d h))
 
+-- equal fractions
+abbrev with-sign : (ℕ → ℤ) → Rounded → RoundedSigned
+with-sign sign r = record { value = sign (r .value); mark = r .mark }
+
+signed-alike : (z : ℤ) (d : ℕ) (y : ℤ) (e : ℕ) → 0 < d → 0 < e → z *ℤ pos e ≡ y *ℤ pos d → roundDivℤ y e ≡ roundDivℤ z d
+unfolding roundDivℤ roundDiv
+signed-alike (pos n) d (pos m) e h k same = ap (with-sign pos) (div-same m e n d k h (sym (ap natAbs same)))
+signed-alike (pos n) d (negsuc m) e h k same = absurd (pos-not-neg (n * e) (suc m * d) (omega (arith, mul-pos {m = suc m} (omega arith) h)) same)
+signed-alike (negsuc n) d (pos m) e h k same = absurd (pos-not-neg (m * d) (suc n * e) (omega (arith, mul-pos {m = suc n} (omega arith) k)) (sym same))
+signed-alike (negsuc n) d (negsuc m) e h k same =
+    ap (with-sign (λ r. negℤ (pos r))) (div-same (suc m) e (suc n) d k h (sym (size-neg-is (suc m * d)) ∙ sym (ap natAbs same) ∙ size-neg-is (suc n * e)))
+
 signed-by-zero : (z : ℤ) → roundDivℤ z 0 ≡ record { value = pos 0; mark = 0 }
-unfolding roundDivℤ
-signed-by-zero (pos n) = rw (← div-by-zero n)
-signed-by-zero (negsuc n) = rw (← div-by-zero (suc n))
+unfolding roundDivℤ roundDiv markOf
+signed-by-zero (pos n) = rw (round-by-zero n)
+signed-by-zero (negsuc n) = rw (round-by-zero (suc n))
 
 pub roundsℤ : (z : ℤ) (d : ℕ) (r : RoundedSigned) → r ≡ roundDivℤ z d → Roundsℤ z d r
 roundsℤ z d r e =
@@ -137,18 +149,19 @@ roundsℤ z d r e =
       size = signed-size z d;
       marked = signed-marked z d;
       odd = signed-odd z d;
+      alike = signed-alike z d;
       by-zero = λ h. rw h (signed-by-zero z);
     })
 
 -- a size that was rounded, with its mark, and the sign put back
 pub div-neg : (z : ℤ) (d : ℕ) (r : Rounded) → r ≡ roundDiv (natAbs z) d → (v : ℤ) → ltZ z (pos 0) ≡ true → v ≡ negℤ (pos (r .value)) →
     record { value = v; mark = r .mark } ≡ roundDivℤ z d
-unfolding roundDivℤ
+unfolding roundDivℤ roundDiv
 div-neg (pos n) d r e v h p = absurd (omega (arith, ltb-true n 0 h))
 div-neg (negsuc n) d r e v h p = rw (p, e)
 
 pub div-pos : (z : ℤ) (d : ℕ) (r : Rounded) → r ≡ roundDiv (natAbs z) d → (v : ℤ) → ltZ z (pos 0) ≡ false → v ≡ pos (r .value) →
     record { value = v; mark = r .mark } ≡ roundDivℤ z d
-unfolding roundDivℤ
+unfolding roundDivℤ roundDiv
 div-pos (pos n) d r e v h p = rw (p, e)
 div-pos (negsuc n) d r e v h p = cc

@@ -44,6 +44,10 @@ pub neg-is : (n : ℕ) → 0 < n → negsuc (n - 1) ≡ negℤ (pos n)
 neg-is zero h = absurd (omega arith)
 neg-is (suc n) h = ap negsuc (omega arith)
 
+pub pos-not-neg : (a b : ℕ) → 0 < b → pos a ≡ negℤ (pos b) → ⊥
+pos-not-neg a zero h e = omega arith
+pos-not-neg a (suc b) h e = let z : _≡_ {A = ℕ} 0 1 = cc in omega arith
+
 pub neg-times : (a b : ℕ) → negℤ (pos a) *ℤ pos b ≡ negℤ (pos (a * b))
 neg-times zero b = rw zero-mul
 neg-times (suc a) b = refl

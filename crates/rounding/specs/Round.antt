@@ -18,9 +18,9 @@ roundedValue n d = (2 * n + d) / (2 * d)
 
 -- the mark of r in the place of n / d: r d against n; by 0, left free too, it is 0
 unfoldable pub markOf : ℕ → ℕ → ℕ → ℕ
-markOf n d r = cond (eqb d 0) exact (cond (ltb n (r * d)) raised (cond (ltb (r * d) n) lowered exact))
+markOf n d r = cond (eqb d 0) 0 (cond (ltb n (r * d)) raised (cond (ltb (r * d) n) lowered exact))
 
--- both
+-- value and mark
 unfoldable pub roundDiv : ℕ → ℕ → Rounded
 roundDiv n d = record { value = roundedValue n d; mark = markOf n d (roundedValue n d) }
 

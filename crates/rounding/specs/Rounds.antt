@@ -29,10 +29,11 @@ pub record Rounds (n d : ℕ) (r : Rounded) : Type 0 where
   pub by-zero : d ≡ 0 → r ≡ record { value = 0; mark = 0 }
 
 -- r is z / d rounded: at most 1/2 away, its size that of z rounded, so that halves go away from zero on both sides; the mark speaks of the sizes, so that −z
--- has the same
+-- has the same; equal fractions have the same value and mark
 pub record Roundsℤ (z : ℤ) (d : ℕ) (r : RoundedSigned) : Type 0 where
   pub near : 0 < d → 2 * natAbs (z -ℤ r .value *ℤ pos d) ≤ d
   pub size : natAbs (r .value) ≡ roundDiv (natAbs z) d .value
   pub marked : 0 < d → Marked (natAbs z) d (natAbs (r .value)) (r .mark)
   pub odd : roundDivℤ (negℤ z) d ≡ record { value = negℤ (r .value); mark = r .mark }
+  pub alike : (y : ℤ) (e : ℕ) → 0 < d → 0 < e → z *ℤ pos e ≡ y *ℤ pos d → roundDivℤ y e ≡ r
   pub by-zero : d ≡ 0 → r ≡ record { value = pos 0; mark = 0 }

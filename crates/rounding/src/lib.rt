@@ -17,7 +17,7 @@ pub struct Quotient {
 }
 
 // `more` where the multiple is at most a limit, else the multiple.
-fn raised(multiple: u64, limit: u64, more: u64) -> u64
+fn grown(multiple: u64, limit: u64, more: u64) -> u64
     ensures { λ r. ⌜ r ≡ cond (leb multiple limit) more multiple ⌝ }
 {
     if multiple <= limit {
@@ -32,12 +32,12 @@ fn doubled(n: u64, d: u64) -> u64
     requires { ⌜ (0 < d) × (d ≤ n) ⌝ }
     ensures { λ r. ⌜ Doubled n d 1 r ⌝ }
 {
-    let within_32 = raised(d, n >> 32, d << 32);
-    let within_16 = raised(within_32, n >> 16, within_32 << 16);
-    let within_8 = raised(within_16, n >> 8, within_16 << 8);
-    let within_4 = raised(within_8, n >> 4, within_8 << 4);
-    let within_2 = raised(within_4, n >> 2, within_4 << 2);
-    raised(within_2, n >> 1, within_2 << 1)
+    let within_32 = grown(d, n >> 32, d << 32);
+    let within_16 = grown(within_32, n >> 16, within_32 << 16);
+    let within_8 = grown(within_16, n >> 8, within_16 << 8);
+    let within_4 = grown(within_8, n >> 4, within_8 << 4);
+    let within_2 = grown(within_4, n >> 2, within_4 << 2);
+    grown(within_2, n >> 1, within_2 << 1)
 }
 
 // A bit of the quotient for each halving of the multiple, down to d: 1 where it can be subtracted. The first bit is 1.
@@ -81,10 +81,7 @@ pub fn round_div(n: u64, d: u64) -> Rounded
     ensures rounds { λ r. ⌜ Rounds n d r ⌝ }
 {
     if d == 0 {
-        return Rounded {
-            value: 0,
-            mark: answer::EXACT,
-        };
+        return Rounded { value: 0, mark: 0 };
     }
     let divided = divide(n, d);
     let q = divided.quotient;

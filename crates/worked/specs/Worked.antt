@@ -2,18 +2,19 @@
 -- printed answer as the answer's struct has it, and each rounded figure with its mark: 0 exact, 1 raised, 2 lowered.
 use mathlib.Core.Path.{_≡_}
 use mathlib.Core.List.{List, [], _∷_}
-use mathlib.Core.Bool.{cond}
+use mathlib.Core.Bool.{false, cond}
 use mathlib.Core.Option.{some, none}
-use Prim.Native.Nat.{ℕ, zero, suc}
+use Prim.Native.Nat.{ℕ, zero, suc, _^_}
 use Prim.Native.String.{String}
 use lib.Dec.{eqb}
 use lib.IntN.{ℤ, pos, negℤ}
+use lib.Ieee.{Float, binary64, round}
 use Rattle.answer.specs.declared.Refusal.{Refusal}
 use Rattle.answer.specs.declared.Figure.{Figure}
 use Rattle.answer.specs.declared.Temperature.{Temperature}
 use Rattle.answer.specs.declared.RoundedFigure.{RoundedFigure}
 use Rattle.answer.specs.declared.RoundedTemperature.{RoundedTemperature}
-use Rattle.answer.specs.Outcome.{shownFigure, shownTemperature, shownRounded, shownRoundedTemperature}
+use Rattle.answer.specs.Outcome.{unless, shownFigure, shownTemperature, shownRounded, shownRoundedTemperature}
 use Rattle.text.specs.Bytes.{bytes}
 use Rattle.elements.specs.declared.Atoms.{Atoms}
 use Rattle.formula.specs.declared.FormulaRead.{FormulaRead}
@@ -29,10 +30,12 @@ use Rattle.bonds.specs.declared.Bonds.{Bonds}
 use Rattle.flash.specs.Points.{byBonds, byClass}
 use Rattle.curve.specs.Curve.{Curve, curve}
 use Rattle.ignition.specs.Questions.{lowerTemperatureLimit, flashByCurve}
+use Rattle.analyser.specs.declared.Reading.the-variants.{Percent, Ppm}
+use Rattle.analyser.specs.Reading.{methodOf, partsOf}
 use Rattle.sheet.specs.Mixture.{sheetAnswer}
 use Rattle.sheet.specs.Answer.{answerText}
 
--- what is asked, of a formula text or of a mixture sheet; temperatures are hundredths of a degree
+-- what is asked, of a formula text, a reading or a mixture sheet; temperatures are hundredths of a degree
 pub data Case : Type 0 where
   -- the atom counts
   formula : String → Case
@@ -53,12 +56,15 @@ pub data Case : Type 0 where
   -- the lower temperature limit on the curve below, and the flash or fire point there with a diffusion coefficient
   lowerTemperature : String → Case
   flashOnCurve : ℕ → String → ℕ → Case
+  -- the parts of an analyser's reading in percent or ppm: detection limit and reading, each the double nearest to a fraction; the ceiling is 100 %
+  percentage : (limit reading : ℕ × ℕ) → Case
+  ppm : (limit reading : ℕ × ℕ) → Case
   -- both limits of a mixture sheet, and the text with which it is answered
   sheetLimits : String → Case
   sheet : String → Case
 
 -- what is printed: a refusal's number and place; the counts of C H O N S P F Cl Br Si; β in quarters; figures in hundredths, each with its mark; hundredths of
--- a degree, found on a curve or rounded, with the mark; or text
+-- a degree, found on a curve or rounded, with the mark; parts with their mark; or text
 pub data Printed : Type 0 where
   refusal : (number place : ℕ) → Printed
   counts : List ℕ → Printed
@@ -66,29 +72,33 @@ pub data Printed : Type 0 where
   figures : List (ℕ × ℕ) → Printed
   degrees : ℤ → Printed
   markedDegrees : ℤ → ℕ → Printed
+  parts : ℕ → ℕ → Printed
   lines : List ℕ → Printed
 
 -- of an answer by its struct: its refusal, or its other fields
-abbrev pub unlessRefused : Refusal → Printed → Printed
-unlessRefused r p = cond (eqb (r .number) 0) p (refusal (r .number) (r .place))
+abbrev pub printedUnless : Refusal → Printed → Printed
+printedUnless r p = unless r (refusal (r .number) (r .place)) p
 
 abbrev pub printedFormula : FormulaRead → Printed
-printedFormula r = unlessRefused (r .refusal) (counts (r .atoms .count))
+printedFormula r = printedUnless (r .refusal) (counts (r .atoms .count))
 
 abbrev pub printedCoefficient : Figure → Printed
-printedCoefficient r = unlessRefused (r .refusal) (inQuarters (r .value))
+printedCoefficient r = printedUnless (r .refusal) (inQuarters (r .value))
 
 abbrev pub printedFigure : RoundedFigure → Printed
-printedFigure r = unlessRefused (r .refusal) (figures ((r .value, r .mark) ∷ []))
+printedFigure r = printedUnless (r .refusal) (figures ((r .value, r .mark) ∷ []))
 
 abbrev pub printedLimits : Limits → Printed
-printedLimits r = unlessRefused (r .refusal) (figures ((r .lower, r .«lower_mark») ∷ (r .upper, r .«upper_mark») ∷ []))
+printedLimits r = printedUnless (r .refusal) (figures ((r .lower, r .«lower_mark») ∷ (r .upper, r .«upper_mark») ∷ []))
 
 abbrev pub printedPoint : RoundedTemperature → Printed
-printedPoint r = unlessRefused (r .refusal) (markedDegrees (r .value) (r .mark))
+printedPoint r = printedUnless (r .refusal) (markedDegrees (r .value) (r .mark))
+
+abbrev pub printedParts : RoundedFigure → Printed
+printedParts r = printedUnless (r .refusal) (parts (r .value) (r .mark))
 
 abbrev pub printedTemperature : Temperature → Printed
-printedTemperature r = unlessRefused (r .refusal) (degrees (r .value))
+printedTemperature r = printedUnless (r .refusal) (degrees (r .value))
 
 abbrev pub countOfKind : List (ℕ × ℕ) → ℕ → ℕ
 countOfKind [] k = 0
@@ -106,6 +116,10 @@ bondsOf kinds = record { count = countsFrom kinds 1 22 }
 abbrev pub workedCurve : Curve
 workedCurve = curve (pos 0 ∷ pos 1000 ∷ pos 2000 ∷ []) (1000 ∷ 2000 ∷ 4000 ∷ [])
 
+-- the double nearest to n / d
+abbrev pub double : ℕ × ℕ → Float
+double f = round binary64 false (f .0) (f .1)
+
 abbrev pub answer : Case → Printed
 answer (formula t) = printedFormula (formulaRead (bytes t))
 answer (coefficient t) = printedCoefficient (shownFigure (ofText oxygenCoefficient (bytes t)))
@@ -118,6 +132,8 @@ answer (flash m t kinds boiling) = printedPoint (shownRoundedTemperature (ofText
 answer (flashOfClass k boiling) = printedPoint (shownRoundedTemperature (byClass k (pos boiling)))
 answer (lowerTemperature t) = printedTemperature (shownTemperature (ofText (λ (a : Atoms). lowerTemperatureLimit a workedCurve) (bytes t)))
 answer (flashOnCurve m t diffusion) = printedTemperature (shownTemperature (ofText (λ (a : Atoms). flashByCurve m a diffusion workedCurve) (bytes t)))
+answer (percentage limit x) = printedParts (shownRounded (partsOf (methodOf (double limit) (double (100, 1))) (Percent (double x))))
+answer (ppm limit x) = printedParts (shownRounded (partsOf (methodOf (double limit) (double (1000000, 1))) (Ppm (double x))))
 answer (sheetLimits t) = printedLimits (shownLimits (sheetAnswer (bytes t)))
 answer (sheet t) = lines (answerText (shownLimits (sheetAnswer (bytes t))))
 
@@ -150,6 +166,14 @@ examples =
     ∷ record { asked = lowerTemperature "C2H6"; printed = degrees (pos 1444) }
     ∷ record { asked = lowerTemperature "CH4"; printed = refusal 13 0 }
     ∷ record { asked = flashOnCurve 1 "C6H6" 800; printed = degrees (pos 669) }
+    ∷ record { asked = percentage (0, 1) (454, 100); printed = parts 45400 2 }
+    ∷ record { asked = percentage (0, 1) (35, 100000); printed = parts 3 2 }
+    ∷ record { asked = percentage (0, 1) (1, 2 ^ 1074); printed = parts 0 2 }
+    ∷ record { asked = ppm (0, 1) (1, 2); printed = parts 1 1 }
+    ∷ record { asked = ppm (0, 1) (1, 10 ^ 300); printed = parts 0 2 }
+    ∷ record { asked = ppm (0, 1) (0, 1); printed = parts 0 0 }
+    ∷ record { asked = ppm (4, 10) (4, 10); printed = parts 0 2 }
+    ∷ record { asked = ppm (5, 10) (4, 10); printed = parts 0 0 }
     ∷ record { asked = sheetLimits "formula,parts\r\nC3H8,300000\r\nC2H6,700000\r\n"; printed = figures ((258, 1) ∷ (1487, 2) ∷ []) }
     ∷ record { asked = sheet "formula,parts\r\nC3H8,300000\r\nC2H6,700000\r\n"; printed = lines (bytes "answer,record,lower,upper\r\n0,0,2.58,14.87\r\n") }
     ∷ []

@@ -9,8 +9,7 @@ use borrow.Author.Tests.{not-true, not-false}
 use Rattle.answer.specs.declared.Rounded.{Rounded}
 use Rattle.answer.specs.declared.RoundedFigure.{RoundedFigure}
 use Rattle.answer.specs.Outcome.{answered, shownRounded}
-use Rattle.rounding.specs.Fraction.{whole, atMost, rounded}
-use Rattle.rounding.proofs.Rounding.{div-le}
+use Rattle.rounding.specs.Fraction.{atMost}
 use Rattle.analyser.specs.Reading.{amount, upTo, goodMethod, converted, measured}
 use Rattle.analyser.specs.Internal.{Scaled}
 use Rattle.analyser.proofs.Order.{le-is}
@@ -69,19 +68,12 @@ returns-3 c =
     rw (good (i .before .before), within i)
     (e ∙ ap (λ (p : Rounded). shownRounded (answered p)) (parts w), omega (arith, ap value e, ap (λ (p : Rounded). p .value) (w .whole-parts .ensures), rounded-most _ (scaled i .most)))
 
--- below the limit 0, exactly
-none : (c : tie.After-round-div) → let a = start (c .before .before .before) .args in c .round-div .result ≡ converted (a .factor * 2 ^ a .twos) (a .method) (a .x)
-unfolding converted rounded whole
-none c = rw (limit (c .before .before .before) ∙ c .before .if3 .left) (c .round-div .ensures .0)
-
 returns-4 : tie.Need-returns-4
-unfolding measured
+unfolding measured converted
 returns-4 c =
-    let z = c .before in
-    let i = z .before .before .before in
+    let i = c .before .before .before in
     let e = c .answered-rounded2 .ensures in
-    rw (good (i .before .before), within i)
-    (e ∙ ap (λ (p : Rounded). shownRounded (answered p)) (none z), omega (arith, ap value e, div-le 0 1 (z .round-div .result) (z .round-div .ensures .0)))
+    rw (good (i .before .before), within i, limit i ∙ c .before .if3 .left) (e, omega (arith, ap value e))
 
 pub measure-spec : {M : Type 1} → statement M
 measure-spec =
@@ -96,6 +88,5 @@ measure-spec =
     (λ c κs. scaled (c .before .before))
     (λ c κs. tt)
     returns-3
-    (λ c κs. tt)
     (λ c κs. tt)
     returns-4)

@@ -19,6 +19,12 @@ known : (c : tie.Else1) → let a = c .before .args in let b = toBits binary64 (
     Shifted (exponent b) (fraction b) (a .factor) (a .twos) (rounded (whole (a .factor * 2 ^ a .twos) ⊠ amount (a .x)))
 known c = facts (c .before .args .x) (c .before .args .factor) (c .before .args .twos) (held (c .before)) (c .before .pre) (omega arith)
 
+returns : tie.Need-returns
+returns c =
+    let s = c .before .before in
+    c .round-div .ensures .0
+    ∙ below-half _ _ _ (held s) (s .pre) (omega arith) _ _ (omega arith) (λ z. omega arith) (λ l. omega arith)
+
 returns-2 : tie.Need-returns-2
 returns-2 c = c .round-div2 .ensures .0 ∙ known (c .before) .is _ _ (omega arith) (omega arith)
 
@@ -29,7 +35,7 @@ whole-parts-spec =
     (λ c. no-nan _ (c .pre .is-amount))
     (λ c. omega (arith, c .pre .scale .small-twos))
     (λ c κs. tt)
-    (λ c. c .round-div .ensures .0 ∙ below-half _ _ _ (held (c .before .before)) (c .before .before .pre) (omega arith))
+    returns
     (λ c. search needs)
     (λ c. omega (arith, known c))
     (λ c. omega (arith, known c))

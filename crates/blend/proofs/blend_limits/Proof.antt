@@ -8,7 +8,7 @@ blend-limits-at-requires c κs = tt
 
 returns : tie.Need-returns
 unfolding askingMarked telling
-returns c = let e = c .blend-limits-at .ensures in (e .0, e .1 .0)
+returns c = let e = c .blend-limits-at .ensures in (e .0, (e .1 .0, e .1 .1 .1))
 
 pub blend-limits-spec : {M : Type 1} → statement M
 blend-limits-spec = tie.close (tie.spec blend-limits-at-requires returns)

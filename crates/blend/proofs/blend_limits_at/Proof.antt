@@ -1,25 +1,32 @@
 -- `blend_limits_at` meets its contract: the tests of the definition, one after the other; and what is answered is at most 100.00 %.
 use mathlib.Core.Path.{_≡_, sym, ap, _∙_}
 use mathlib.Core.Bool.{true, false}
+use mathlib.Core.Option.{some}
 use Prim.Native.Nat.{ℕ, _≤_}
 use native.Mathlib.Omega.{arith}
 use lib.Dec.{eqb}
-use lib.IntN.{natAbs}
+use lib.IntN.{ℤ, natAbs}
 use mir.Facts.{toZ-ofZ}
 use borrow.Author.Tests.{not-true, not-false, eq-eqb, ne-eqb}
 use Rattle.answer.specs.Outcome.{refused, answered, refusal}
 use Rattle.answer.proofs.Outside.{inside-is}
 use Rattle.blend.specs.declared.Limits.{Limits}
-use Rattle.blend.specs.Temperature.{gasOutside}
-use Rattle.blend.specs.Blend.{within, limitsAt, telling, askingMarked, shownLimits}
+use Rattle.blend.specs.declared.Blend.{Blend}
+use Rattle.blend.specs.Temperature.{gasOutside, OneAtFit}
+use Rattle.blend.specs.Blend.{within, limits, roundedBlendLimits, telling, askingMarked, asking, shownLimits, limitsTold}
 use Rattle.blend.proofs.Bounds.{within-facts}
 use Rattle.blend.proofs.LeChatelier.{one-at-fit}
+use Rattle.blend.proofs.Told.{limits-told}
 use Rattle.blend.proofs.Figures.{lower-most, upper-most}
 use Rattle.blend.proofs.blend_limits_at.Statement.{statement}
 use Rattle.blend.proofs.blend_limits_at.Tie as tie
 
 abbrev Most : Limits → Type 0
 Most r = (r .lower ≤ 10000) × (r .upper ≤ 10000)
+
+answer : (b : Blend) (t : ℤ) (r : Limits) → r ≡ shownLimits (askingMarked b (limits (some t))) → Most r →
+    (r ≡ shownLimits (askingMarked b (limits (some t)))) × (Most r × (OneAtFit × (limitsTold r ≡ asking b (limits (some t)))))
+answer b t r e m = (e, (m, (one-at-fit, limits-told b (some t) r e)))
 
 -- with a refusal both limits are 0
 none : (r : Limits) (n p : ℕ) → r ≡ shownLimits (refused (refusal n p)) → Most r
@@ -36,25 +43,25 @@ gas c = rw (toZ-ofZ (c .before .before .before .before .before .fits .temperatur
 
 returns : tie.Need-returns
 unfolding askingMarked
-returns c = let e = c .no-limits .ensures in rw (beyond (c .before)) (e, (none _ _ _ e, one-at-fit))
+returns c = let e = c .no-limits .ensures in answer _ _ _ (rw (beyond (c .before)) e) (none _ _ _ e)
 
 returns-2 : tie.Need-returns-2
 unfolding askingMarked
 returns-2 c =
     let i = c .before .before .before in
     let e = c .no-limits2 .ensures in
-    rw (inside i, eq-eqb (i .before .before .args .b .total) 0 (omega arith)) (e, (none _ _ _ e, one-at-fit))
+    answer _ _ _ (rw (inside i, eq-eqb (i .before .before .args .b .total) 0 (omega arith)) e) (none _ _ _ e)
 
 module _ (c : tie.Else2) where
-  some : eqb (c .before .before .before .before .args .b .total) 0 ≡ false
-  some = ne-eqb (c .before .before .before .before .args .b .total) 0 (λ z. omega arith)
+  filled : eqb (c .before .before .before .before .args .b .total) 0 ≡ false
+  filled = ne-eqb (c .before .before .before .before .args .b .total) 0 (λ z. omega arith)
 
 returns-3 : tie.Need-returns-3
 unfolding askingMarked telling
 returns-3 c =
     let i = c .before .before .before in
     let e = c .no-limits3 .ensures in
-    rw (inside (i .before .before), some i, sym (gas (c .before .before)) ∙ c .before .if3 .taken) (e, (none _ _ _ e, one-at-fit))
+    answer _ _ _ (rw (inside (i .before .before), filled i, sym (gas (c .before .before)) ∙ c .before .if3 .taken) e) (none _ _ _ e)
 
 warm : (c : tie.Else3) → gasOutside (c .before .before .before .before .before .before .args .temperature) ≡ false
 warm c = sym (gas (c .before)) ∙ c .if3 .left
@@ -80,7 +87,7 @@ returns-4 c =
     let w = within-facts _ (inside (i .before .before)) in
     let made = c .limits-from .ensures in
     let most : Most (c .limits-from .result) = rw made (lower-most b (z .size .result) w (omega arith) (admitted z), upper-most b (z .size .result) w (omega arith) (admitted z)) in
-    rw (inside (i .before .before), some i, warm (z .before)) (made ∙ ap (λ (t : ℕ). shownLimits (answered (limitsAt b t))) (sized z), (most, one-at-fit))
+    answer _ _ _ (rw (inside (i .before .before), filled i, warm (z .before)) (made ∙ ap (λ (t : ℕ). shownLimits (answered (roundedBlendLimits b t))) (sized z))) most
 
 pub blend-limits-at-spec : {M : Type 1} → statement M
 blend-limits-at-spec =

@@ -46,13 +46,13 @@ unfolding massConcentration
 returns c = rw (declined c) (asked (c .before .before .before) ∙ ap shownLimits (declined c))
 
 rate-of-requires : tie.Need-rate-of-requires
-rate-of-requires c κs = let l = c .before .before .before .before .before in (light c, omega (arith, sized c, known c .1), l .fuel-limits-at .ensures .1 .0 .0)
+rate-of-requires c κs = let l = c .before .before .before .before .before in (light c, omega (arith, sized c, known c .1), omega (arith, l .fuel-limits-at .ensures .1 .0))
 
 rate-of-requires-2 : tie.Need-rate-of-requires-2
 rate-of-requires-2 c κs =
     let z = c .before in
     let l = z .before .before .before .before .before in
-    (light z, omega (arith, sized z, known z .1), l .fuel-limits-at .ensures .1 .0 .1)
+    (light z, omega (arith, sized z, known z .1), omega (arith, l .fuel-limits-at .ensures .1 .0))
 
 -- both rates are handed on, each with its mark
 handed : (c : tie.After-answered-limits) → c .answered-limits .result ≡ shownPair (c .before .before .rate-of .result) (c .before .rate-of2 .result)

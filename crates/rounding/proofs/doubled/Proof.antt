@@ -5,7 +5,7 @@ use Prim.Native.Nat.{ℕ, _+_, _*_, _/_, _%_, _^_}
 use lib.Dec.{leb}
 use native.Mathlib.Omega.{arith}
 use Rattle.rounding.specs.Internal.{Doubled}
-use Rattle.rounding.proofs.Division.{doubled-none, doubled-raised}
+use Rattle.rounding.proofs.Division.{doubled-none, doubled-grown}
 use Rattle.rounding.proofs.doubled.Statement.{statement}
 use Rattle.rounding.proofs.doubled.Tie as tie
 
@@ -17,7 +17,7 @@ module _ (start : tie.Start) where
   d = start .args .d
 
   step : (k m r : ℕ) → r ≡ cond (leb m (n / 2 ^ k)) (m * 2 ^ k % 18446744073709551616) m → Doubled n d (k + k) m → Doubled n d k r
-  step k m r e p = doubled-raised _ n d k m r (omega (arith, start .fits .n)) p e
+  step k m r e p = doubled-grown _ n d k m r (omega (arith, start .fits .n)) p e
 
   none : Doubled n d 64 d
   none = doubled-none 64 n d (omega (arith, start .fits .n)) (start .pre .0) (start .pre .1)
@@ -30,12 +30,12 @@ returns c =
     let by-16 = by-8 .before in
     let by-32 = by-16 .before in
     let s = step (by-32 .before) in
-    s 1 _ _ (c .raised6 .ensures)
-    (s 2 _ _ (by-2 .raised5 .ensures)
-    (s 4 _ _ (by-4 .raised4 .ensures)
-    (s 8 _ _ (by-8 .raised3 .ensures)
-    (s 16 _ _ (by-16 .raised2 .ensures)
-    (s 32 _ _ (by-32 .raised .ensures) (none (by-32 .before)))))))
+    s 1 _ _ (c .grown6 .ensures)
+    (s 2 _ _ (by-2 .grown5 .ensures)
+    (s 4 _ _ (by-4 .grown4 .ensures)
+    (s 8 _ _ (by-8 .grown3 .ensures)
+    (s 16 _ _ (by-16 .grown2 .ensures)
+    (s 32 _ _ (by-32 .grown .ensures) (none (by-32 .before)))))))
 
 pub doubled-spec : {M : Type 1} → statement M
 doubled-spec = tie.close (tie.spec (λ c κs. tt) (λ c κs. tt) (λ c κs. tt) (λ c κs. tt) (λ c κs. tt) (λ c κs. tt) returns)

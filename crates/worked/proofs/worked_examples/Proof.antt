@@ -1,6 +1,7 @@
 -- The worked examples, by computing each answer on the definitions: their number, then a `refl` for each, ten at a time.
 use mathlib.Core.Path.{refl}
 use mathlib.Core.Option.{Option·elim}
+use lib.Ieee.{round}
 use lib.ListN.{drop}
 use Rattle.answer.specs.Lowest.{lowest}
 use Rattle.answer.specs.Outside.{outside}
@@ -18,7 +19,7 @@ use Rattle.oxygen.specs.Stoichiometric.{stoichiometric, stoichiometricFraction}
 use Rattle.blend.specs.Limit.{slope, constant, divisor, limitOf}
 use Rattle.blend.specs.Temperature.{correction}
 use Rattle.blend.specs.Fuel.{molarMass, admitting}
-use Rattle.blend.specs.Blend.{held, weight, sumWithin, within, taking, adding, blendLimit, telling, askingMarked}
+use Rattle.blend.specs.Blend.{held, weight, sumWithin, within, taking, adding, roundedBlendLimit, telling, askingMarked}
 use Rattle.limits.specs.FuelLimits.{roundedFuelLimit, fuelLimits}
 use Rattle.limits.specs.Concentration.{molarVolume, concentration, massConcentration}
 use Rattle.bonds.specs.Kinds.{aboveAt, hydrogenUnbalanced}
@@ -27,6 +28,7 @@ use Rattle.flash.specs.Points.{missing, noCoefficientAt, lineTerms, bondTerm, t
 use Rattle.curve.specs.Smallest.{smallest, searched}
 use Rattle.curve.specs.Curve.{sizes, outOfRange, rising, badPoint, firstBadPoint, accepting, between, segmentOf, pressureAt, onCurve}
 use Rattle.ignition.specs.Questions.{partOfPressure, reaches, withLimit, lowerTemperatureLimit, threshold, product, ignites, withOxygen, flashByCurve}
+use Rattle.analyser.specs.Reading.{upTo, goodMethod, converted, measured, partsOf}
 use Rattle.sheet.specs.Mixture.{isParts, spelledFrom, addingAll, sheetAnswer}
 use Rattle.sheet.specs.Answer.{percent, limitsLine, answerLine, answerText}
 use Rattle.worked.specs.Worked.{examples, AsPrinted}
@@ -40,13 +42,15 @@ unfolding reading formulaRead readItems readItem symbolOf multipleOf digitFrom f
     aboveAt hydrogenUnbalanced Option·elim coefficients methods classes missing noCoefficientAt lineTerms bondTerm terms classTerms sumFrom byBonds byClass
     smallest searched sizes outOfRange rising badPoint firstBadPoint accepting between segmentOf pressureAt onCurve
     partOfPressure reaches withLimit lowerTemperatureLimit threshold product ignites withOxygen flashByCurve
-    admitting held weight sumWithin within taking adding blendLimit telling askingMarked
+    admitting held weight sumWithin within taking adding roundedBlendLimit telling askingMarked
     crlf comma lines fields before all plain headed records formed goodRecord isParts spelledFrom addingAll sheetAnswer
+    round upTo goodMethod converted measured partsOf
     decimal percent limitsLine answerLine answerText
 returns c =
-    let last : AsPrinted (drop 20 examples) = (refl, (refl, (refl, (refl, (refl, tt))))) in
-    let later : AsPrinted (drop 10 examples) = (refl, (refl, (refl, (refl, (refl, (refl, (refl, (refl, (refl, (refl, last)))))))))) in
-    (refl, (refl, (refl, (refl, (refl, (refl, (refl, (refl, (refl, (refl, (refl, later)))))))))))
+    let from-30 : AsPrinted (drop 30 examples) = (refl, (refl, (refl, tt))) in
+    let from-20 : AsPrinted (drop 20 examples) = (refl, (refl, (refl, (refl, (refl, (refl, (refl, (refl, (refl, (refl, from-30)))))))))) in
+    let from-10 : AsPrinted (drop 10 examples) = (refl, (refl, (refl, (refl, (refl, (refl, (refl, (refl, (refl, (refl, from-20)))))))))) in
+    (refl, (refl, (refl, (refl, (refl, (refl, (refl, (refl, (refl, (refl, (refl, from-10)))))))))))
 
 pub worked-examples-spec : {M : Type 1} → statement M
 worked-examples-spec = tie.close (tie.spec returns)
