@@ -1,4 +1,6 @@
 // Analyser readings: a reading taken to whole parts per million, from the exact value of its float.
+#![tactic(auto)]
+
 ghost use Rattle.std.specs.Prelude.{◌≡◌, ◌*◌, ◌^◌, ◌≤◌, T};
 ghost use Rattle.answer.specs.Outcome.{shown_rounded};
 ghost use Rattle.rounding.specs.Fraction.{rounded, whole, ◌⊠◌};
@@ -9,13 +11,13 @@ use answer::{Rounded, RoundedFigure, answered_rounded, refused_rounded};
 use rounding::round_div;
 
 // An analyser's method: its detection limit and its ceiling, in the reading's unit.
-#[derive(Drop)]
+#[derive(Clone, Copy)]
 pub struct Method {
     pub limit: f64,
     pub ceiling: f64,
 }
 
-#[derive(Drop)]
+#[derive(Clone, Copy)]
 pub enum Reading {
     Percent(f64),
     Ppm(f64),

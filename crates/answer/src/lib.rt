@@ -1,12 +1,14 @@
 // What a question is answered with: a refusal, by a number of document 01's table and a place, or a figure or a temperature, with a mark where it is rounded;
 // numbers outside a range.
+#![tactic(auto)]
+
 ghost use Rattle.std.specs.Prelude.{◌≡◌, pos};
 ghost use Rattle.answer.specs.Outcome.{refused, answered, refusal, unless, shown_figure, shown_temperature, shown_rounded, shown_rounded_temperature};
 ghost use Rattle.answer.specs.Outside.{outside};
 
 // A number of the table, and a place.
 #[repr(C)]
-#[derive(Drop)]
+#[derive(Clone, Copy)]
 pub struct Refusal {
     pub number: u64,
     pub place: u64,
@@ -14,7 +16,7 @@ pub struct Refusal {
 
 // A figure, or a refusal and 0.
 #[repr(C)]
-#[derive(Drop)]
+#[derive(Clone, Copy)]
 pub struct Figure {
     pub refusal: Refusal,
     pub value: u64,
@@ -22,21 +24,21 @@ pub struct Figure {
 
 // A temperature in hundredths of a degree, or a refusal and 0.
 #[repr(C)]
-#[derive(Drop)]
+#[derive(Clone, Copy)]
 pub struct Temperature {
     pub refusal: Refusal,
     pub value: i64,
 }
 
 // A figure that was rounded, and its mark: how its size stands to that of the exact fraction.
-#[derive(Drop)]
+#[derive(Clone, Copy)]
 pub struct Rounded {
     pub value: u64,
     pub mark: u64,
 }
 
 // The same of a figure that may be negative.
-#[derive(Drop)]
+#[derive(Clone, Copy)]
 pub struct RoundedSigned {
     pub value: i64,
     pub mark: u64,
@@ -44,7 +46,7 @@ pub struct RoundedSigned {
 
 // A rounded figure with its mark, or a refusal and zeros.
 #[repr(C)]
-#[derive(Drop)]
+#[derive(Clone, Copy)]
 pub struct RoundedFigure {
     pub refusal: Refusal,
     pub value: u64,
@@ -53,7 +55,7 @@ pub struct RoundedFigure {
 
 // A temperature rounded to hundredths of a degree with its mark, or a refusal and zeros.
 #[repr(C)]
-#[derive(Drop)]
+#[derive(Clone, Copy)]
 pub struct RoundedTemperature {
     pub refusal: Refusal,
     pub value: i64,

@@ -1,4 +1,6 @@
 // Blends of fuels (document 01: pools): what Le Chatelier's rule needs of all that one took in.
+#![tactic(auto)]
+
 ghost use Rattle.std.specs.Prelude.{◌≡◌, ◌&&◌, List, ◌*◌, ◌≤◌, ◌<◌, leb};
 ghost use Rattle.std.proofs.Math.Option.{some, none};
 ghost use Rattle.answer.specs.Outcome.{refused, answered, refusal, unless};
@@ -21,7 +23,7 @@ use rounding::{round_div, size};
 
 // Total parts, and the sums of parts times aβ + b: lower in thousandths, upper in two-thousandths.
 #[repr(C)]
-#[derive(Drop)]
+#[derive(Clone, Copy)]
 pub struct Blend {
     pub total: u64,
     pub lower: u64,
@@ -30,7 +32,7 @@ pub struct Blend {
 
 // The blend after an adding or a joining, or a refusal and the blend as given.
 #[repr(C)]
-#[derive(Drop)]
+#[derive(Clone, Copy)]
 pub struct Blended {
     pub refusal: Refusal,
     pub blend: Blend,
@@ -38,7 +40,7 @@ pub struct Blended {
 
 // Both limits in hundredths of a volume percent with their marks, or a refusal and zeros.
 #[repr(C)]
-#[derive(Drop)]
+#[derive(Clone, Copy)]
 pub struct Limits {
     pub refusal: Refusal,
     pub lower: u64,

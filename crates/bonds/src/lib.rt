@@ -1,4 +1,6 @@
 // Bond kinds and counts, and what the counts of atoms and bonds have to agree in.
+#![tactic(auto)]
+
 ghost use Rattle.std.specs.Prelude.{◌≡◌};
 ghost use Rattle.std.proofs.Math.Option.{get_or};
 ghost use Rattle.bonds.specs.Kinds.{above_at, hydrogen_unbalanced};
@@ -7,7 +9,7 @@ use elements::{Atoms, each, first_above};
 
 // Bond counts, indexed by kind less one.
 #[repr(C)]
-#[derive(Drop)]
+#[derive(Clone, Copy)]
 pub struct Bonds {
     pub count: [u64; 22],
 }

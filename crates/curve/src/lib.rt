@@ -1,5 +1,7 @@
 // The vapour curve: which curves are accepted, the pressure at a temperature, and the smallest hundredth of a degree at which a condition holds.
 // A curve is two lists, temperatures in hundredths of °C and pressures in Pa. Inside, a temperature is counted from −273 °C.
+#![tactic(auto)]
+
 ghost use Rattle.std.specs.Prelude.{◌≡◌, true, false, ◌≤◌, ◌<◌, pos, length, get_or};
 ghost use Rattle.answer.specs.Outcome.{answered, refusal_of, shown_figure, shown_temperature};
 ghost use Rattle.curve.specs.Smallest.{kelvin as kelvin_of, celsius, clamp as clamp_of, smallest, met};
@@ -14,7 +16,7 @@ use answer::{
 use rounding::{divide, size};
 
 // level ≤ (slope · t + base) · p, of a temperature t and a pressure p.
-#[derive(Drop)]
+#[derive(Clone, Copy)]
 pub struct Condition {
     pub slope: u64,
     pub base: u64,
@@ -22,7 +24,7 @@ pub struct Condition {
 }
 
 // A segment of a curve.
-#[derive(Drop)]
+#[derive(Clone, Copy)]
 pub struct Segment {
     pub from: u64,
     pub to: u64,
@@ -31,7 +33,7 @@ pub struct Segment {
 }
 
 // What a search finds: the point at which the segment of the answer ends, 0 with a refusal; and the answer.
-#[derive(Drop)]
+#[derive(Clone, Copy)]
 struct Found {
     segment: usize,
     temperature: Temperature,
@@ -51,6 +53,7 @@ pub fn kelvin(t: i64) -> u64
 }
 
 // A number brought to low to high.
+#[tactic(auto, unfolding(crate::specs::Smallest::clamp))]
 fn clamp(low: u64, high: u64, n: u64) -> u64
     ensures { result ≡ clamp_of low high n }
 {
@@ -92,6 +95,7 @@ fn segment_at(temperatures: &[i64], pressures: &[u64], i: usize) -> Segment
 }
 
 // Whether the lists are of equal length, 2 to 4,096 points.
+#[tactic(auto, unfolding(crate::specs::Curve::sizes))]
 fn is_sized(n: usize, m: usize) -> bool
     ensures { result ≡ sizes n m }
 {
@@ -105,6 +109,7 @@ fn is_sized(n: usize, m: usize) -> bool
 }
 
 // Whether the point that ends a segment is above the one that starts it.
+#[tactic(auto, unfolding(crate::specs::Curve::rising))]
 fn is_rising(s: Segment) -> bool
     ensures { result ≡ rising s }
 {
@@ -115,6 +120,7 @@ fn is_rising(s: Segment) -> bool
 }
 
 // Whether point i is bad.
+#[tactic(auto, unfolding(crate::specs::Curve::bad_point, crate::specs::Curve::out_of_range))]
 fn is_bad_point(temperatures: &[i64], pressures: &[u64], i: usize) -> bool
     requires { (i < length temperatures.now) × (i < length pressures.now) }
     ensures { result ≡ bad_point (curve temperatures.now pressures.now) i }

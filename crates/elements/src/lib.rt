@@ -1,10 +1,12 @@
 // The elements and atom counts: the lowest element above a bound, and weighted sums.
+#![tactic(auto)]
+
 ghost use Rattle.std.specs.Prelude.{◌≡◌, ◌*◌, ◌≤◌, min};
 ghost use Rattle.std.proofs.Math.Option.{get_or};
-ghost use Rattle.elements.specs.Elements.{number, each as Elements·each, first_above, is_empty, weighted_sum};
+ghost use Rattle.elements.specs.Elements.{number, each, first_above, is_empty, weighted_sum};
 
 // Elements 1 to 10.
-#[derive(Drop)]
+#[derive(Clone, Copy)]
 pub enum Element {
     Carbon,
     Hydrogen,
@@ -20,7 +22,7 @@ pub enum Element {
 
 // Atom counts, indexed by element number less one.
 #[repr(C)]
-#[derive(Drop)]
+#[derive(Clone, Copy)]
 pub struct Atoms {
     pub count: [u64; 10],
 }
@@ -44,7 +46,7 @@ pub fn number_of(e: Element) -> u64
 
 // n atoms of each element.
 pub fn each(n: u64) -> Atoms
-    ensures { result ≡ Elements·each n }
+    ensures { result ≡ each n }
 {
     Atoms { count: [n; 10] }
 }

@@ -1,25 +1,27 @@
 // Flash and fire points, from bonds, from a class and on a curve, and lower temperature limits.
-use crate::{show, show_degrees, show_mark, show_named};
+use crate::{show, show_degrees, show_mark, show_named, show_number};
 use answer::{RoundedTemperature, Temperature};
 use bonds::Bonds;
 use elements::Atoms;
-use libc::STDOUT_FILENO;
+use std::io;
 
 // A temperature found on a curve.
-fn show_temperature(name: &[u8], answer: Temperature) {
-    if show_named(name, answer.refusal) {
-        show_degrees(answer.value);
-        show(b"\n");
+fn show_temperature(rt: &impl Print, name: &[u8], answer: Temperature) -> io::Result<()> {
+    if show_named(rt, name, answer.refusal)? {
+        show_degrees(rt, answer.value)?;
+        show(rt, b"\n")?;
     }
+    Ok(())
 }
 
 // A temperature that was rounded.
-fn show_point(name: &[u8], answer: RoundedTemperature) {
-    if show_named(name, answer.refusal) {
-        show_degrees(answer.value);
-        show_mark(answer.mark);
-        show(b"\n");
+fn show_point(rt: &impl Print, name: &[u8], answer: RoundedTemperature) -> io::Result<()> {
+    if show_named(rt, name, answer.refusal)? {
+        show_degrees(rt, answer.value)?;
+        show_mark(rt, answer.mark)?;
+        show(rt, b"\n")?;
     }
+    Ok(())
 }
 
 // Carbon and hydrogen, and oxygen.
@@ -40,85 +42,136 @@ pub fn bonds_of(single: u64, ring: u64, c_h: u64, c_o: u64, o_h: u64) -> Bonds {
     Bonds { count }
 }
 
-pub fn show_bonds(name: &[u8], method: u64, atoms: Atoms, bonds: Bonds, boiling: i64) {
-    show_point(name, flash::flash_by_bonds(method, atoms, bonds, boiling));
+pub fn show_bonds(
+    rt: &impl Print,
+    name: &[u8],
+    method: u64,
+    atoms: Atoms,
+    bonds: Bonds,
+    boiling: i64,
+) -> io::Result<()> {
+    show_point(
+        rt,
+        name,
+        flash::flash_by_bonds(method, atoms, bonds, boiling),
+    )
 }
 
-pub fn flash_points() {
-    show(b"\nflash and fire points\n");
+pub fn flash_points(rt: &impl Print) -> io::Result<()> {
+    show(rt, b"\nflash and fire points\n")?;
     let ethanol = bonds_of(1, 0, 5, 1, 1);
-    show_bonds(b"ethanol, closed cup", 1, fuel(2, 6, 1), ethanol, 7840);
-    show_bonds(b"ethanol, open cup", 2, fuel(2, 6, 1), ethanol, 7840);
-    show_bonds(b"ethanol, fire point", 3, fuel(2, 6, 1), ethanol, 7840);
-    show_point(b"ethanol, alcohols", flash::flash_by_class(2, 7840));
+    show_bonds(rt, b"ethanol, closed cup", 1, fuel(2, 6, 1), ethanol, 7840)?;
+    show_bonds(rt, b"ethanol, open cup", 2, fuel(2, 6, 1), ethanol, 7840)?;
+    show_bonds(rt, b"ethanol, fire point", 3, fuel(2, 6, 1), ethanol, 7840)?;
+    show_point(rt, b"ethanol, alcohols", flash::flash_by_class(2, 7840))?;
     let benzene = bonds_of(0, 6, 6, 0, 0);
-    show_bonds(b"benzene at 80.10", 1, fuel(6, 6, 0), benzene, 8010);
-    show_bonds(b"benzene at 80.05", 1, fuel(6, 6, 0), benzene, 8005);
-    show_bonds(b"toluene", 1, fuel(7, 8, 0), bonds_of(1, 6, 8, 0, 0), 11060);
-    show_bonds(b"method 4", 4, fuel(2, 6, 1), ethanol, 7840);
+    show_bonds(rt, b"benzene at 80.10", 1, fuel(6, 6, 0), benzene, 8010)?;
+    show_bonds(rt, b"benzene at 80.05", 1, fuel(6, 6, 0), benzene, 8005)?;
     show_bonds(
+        rt,
+        b"toluene",
+        1,
+        fuel(7, 8, 0),
+        bonds_of(1, 6, 8, 0, 0),
+        11060,
+    )?;
+    show_bonds(rt, b"method 4", 4, fuel(2, 6, 1), ethanol, 7840)?;
+    show_bonds(
+        rt,
         b"201 C-H bonds",
         1,
         fuel(2, 6, 1),
         bonds_of(1, 0, 201, 1, 1),
         7840,
-    );
-    show_bonds(b"bonds of another", 1, fuel(7, 8, 0), benzene, 7840);
-    show_bonds(b"boiling above 600.00", 1, fuel(2, 6, 1), ethanol, 60001);
-    show_point(b"alkanes at 5.00", flash::flash_by_class(1, 500));
-    show_point(b"alkanes at 0.00", flash::flash_by_class(1, 0));
-    show_point(b"class 11", flash::flash_by_class(11, 7840));
+    )?;
+    show_bonds(rt, b"bonds of another", 1, fuel(7, 8, 0), benzene, 7840)?;
+    show_bonds(
+        rt,
+        b"boiling above 600.00",
+        1,
+        fuel(2, 6, 1),
+        ethanol,
+        60001,
+    )?;
+    show_point(rt, b"alkanes at 5.00", flash::flash_by_class(1, 500))?;
+    show_point(rt, b"alkanes at 0.00", flash::flash_by_class(1, 0))?;
+    show_point(rt, b"class 11", flash::flash_by_class(11, 7840))
 }
 
-fn show_lower(name: &[u8], fuel: Atoms) {
+fn show_lower(rt: &impl Print, name: &[u8], fuel: Atoms) -> io::Result<()> {
     show_temperature(
+        rt,
         name,
         ignition::lower_temperature_limit(fuel, &[0, 1000, 2000], &[1000, 2000, 4000]),
-    );
+    )
 }
 
 fn show_by_curve(
+    rt: &impl Print,
     name: &[u8],
     method: u64,
     diffusion: u64,
     temperatures: &[i64],
     pressures: &[u64],
-) {
+) -> io::Result<()> {
     show_temperature(
+        rt,
         name,
         ignition::flash_by_curve(method, fuel(6, 6, 0), diffusion, temperatures, pressures),
-    );
+    )
 }
 
-fn show_pressure(temperature: i64) {
-    show(b"pressure at ");
-    show_degrees(temperature);
-    show(b": ");
+fn show_pressure(rt: &impl Print, temperature: i64) -> io::Result<()> {
+    show(rt, b"pressure at ")?;
+    show_degrees(rt, temperature)?;
+    show(rt, b": ")?;
     let answer = curve::pressure_at(&[0, 1000, 2000], &[1000, 2000, 4000], temperature);
-    io::print_decimal(STDOUT_FILENO, answer.value);
-    show(b"\n");
+    show_number(rt, answer.value)?;
+    show(rt, b"\n")
 }
 
 // The pressures, the lower temperature limits, and C6H6 by formula (35).
-pub fn curves() {
-    show(b"\ncurves\n");
-    show_pressure(0);
-    show_pressure(1443);
-    show_pressure(1444);
-    show_pressure(2000);
-    show_lower(b"C2H6", fuel(2, 6, 0));
-    show_lower(b"C3H8", fuel(3, 8, 0));
-    show_lower(b"CH4", fuel(1, 4, 0));
-    show_lower(b"C40H82", fuel(40, 82, 0));
-    show_by_curve(b"C6H6", 1, 800, &[0, 1000, 2000], &[1000, 2000, 4000]);
-    show_by_curve(b"method 0", 0, 800, &[0, 1000, 2000], &[1000, 2000, 4000]);
-    show_by_curve(b"no diffusion", 1, 0, &[0, 1000, 2000], &[1000, 2000, 4000]);
+pub fn curves(rt: &impl Print) -> io::Result<()> {
+    show(rt, b"\ncurves\n")?;
+    show_pressure(rt, 0)?;
+    show_pressure(rt, 1443)?;
+    show_pressure(rt, 1444)?;
+    show_pressure(rt, 2000)?;
+    show_lower(rt, b"C2H6", fuel(2, 6, 0))?;
+    show_lower(rt, b"C3H8", fuel(3, 8, 0))?;
+    show_lower(rt, b"CH4", fuel(1, 4, 0))?;
+    show_lower(rt, b"C40H82", fuel(40, 82, 0))?;
+    show_by_curve(rt, b"C6H6", 1, 800, &[0, 1000, 2000], &[1000, 2000, 4000])?;
     show_by_curve(
+        rt,
+        b"method 0",
+        0,
+        800,
+        &[0, 1000, 2000],
+        &[1000, 2000, 4000],
+    )?;
+    show_by_curve(
+        rt,
+        b"no diffusion",
+        1,
+        0,
+        &[0, 1000, 2000],
+        &[1000, 2000, 4000],
+    )?;
+    show_by_curve(
+        rt,
         b"not above the one before",
         1,
         800,
         &[0, 1000, 1000],
         &[1000, 2000, 4000],
-    );
-    show_by_curve(b"unequal lengths", 1, 800, &[0, 1000, 2000], &[1000, 2000]);
+    )?;
+    show_by_curve(
+        rt,
+        b"unequal lengths",
+        1,
+        800,
+        &[0, 1000, 2000],
+        &[1000, 2000],
+    )
 }

@@ -1,4 +1,6 @@
 // Flash and fire points from bonds, formula (33), and from a class, formula (34).
+#![tactic(auto)]
+
 ghost use Rattle.std.specs.Prelude.{◌≡◌, ◌≤◌, pos, nat_abs, ◌*ℤ◌};
 ghost use Rattle.std.proofs.Math.Option.{get_or};
 ghost use Rattle.answer.specs.Lowest.{lowest};
@@ -16,7 +18,7 @@ use elements::Atoms;
 use rounding::round_div_signed;
 
 // A straight line of the boiling point, in thousandths.
-#[derive(Drop)]
+#[derive(Clone, Copy)]
 struct Linear {
     constant: i64,
     slope: i64,

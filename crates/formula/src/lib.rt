@@ -1,11 +1,13 @@
 // Molecular formulas: reading a formula text.
 // A formula reader calls an item reader, which calls the formula reader on a bracket, one level less deep.
+#![tactic(auto)]
+
 ghost use Rattle.std.specs.Prelude.{◌≡◌, cond, not, ◌||◌, [], ◌∷◌, ℕ, ◌+◌, ◌*◌, ◌≤◌, ltb, length, drop};
 ghost use Rattle.std.proofs.Math.Option.{none};
 ghost use Rattle.answer.specs.Outcome.{refused, refusal};
 ghost use Rattle.text.specs.Reader.{Result};
 ghost use Rattle.elements.specs.declared.Element.{Element};
-ghost use Rattle.elements.specs.Elements.{Totals, number, one, times, atoms as Elements·atoms};
+ghost use Rattle.elements.specs.Elements.{Totals, number, one, times, atoms as atoms_of};
 ghost use Rattle.formula.specs.Reader.{with_symbol, with_letter, symbol_by, symbol_of, multiple_of, multiple_at, ends, read_element, closing, read_item, read_items};
 ghost use Rattle.formula.specs.Reading.{shown_formula, at_most200, formula_read, ByGrammar};
 ghost use Rattle.formula.specs.Internal.{number_of, spelling, cap, Counted, zeros, Adds, Says};
@@ -16,28 +18,28 @@ use text::{byte_at, is_digit_from};
 
 // A formula that was read, or a refusal and zeros.
 #[repr(C)]
-#[derive(Drop)]
+#[derive(Clone, Copy)]
 pub struct FormulaRead {
     pub refusal: Refusal,
     pub atoms: Atoms,
 }
 
 // What two bytes begin: the number of the element whose symbol it is, and the symbol's size; 0 where it is none, and the size of what begins one.
-#[derive(Drop)]
+#[derive(Clone, Copy)]
 struct Spelling {
     number: u64,
     size: usize,
 }
 
 // An optional count: its value, 1 where none is written, and the number of its digits.
-#[derive(Drop)]
+#[derive(Clone, Copy)]
 struct Multiple {
     value: u64,
     size: usize,
 }
 
 // Whether reading goes on: the position behind what was read, or that where reading is stuck.
-#[derive(Drop)]
+#[derive(Clone, Copy)]
 struct Step {
     ok: bool,
     at: usize,
@@ -259,7 +261,7 @@ fn refused_formula(number: u64, place: u64) -> FormulaRead
 
 // The atom counts, unless one exceeds 200.
 fn judge(atoms: Atoms) -> FormulaRead
-    ensures { (m : Totals) → Counted atoms.count m → result ≡ shown_formula (at_most200 (Elements·atoms m)) }
+    ensures { (m : Totals) → Counted atoms.count m → result ≡ shown_formula (at_most200 (atoms_of m)) }
 {
     let over = first_above(each(200), atoms);
     if 0 < over {

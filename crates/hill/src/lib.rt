@@ -1,4 +1,6 @@
 // Atom counts written in Hill order: the text is put together in a line of its own and then copied to the lent room.
+#![tactic(auto)]
+
 ghost use Rattle.std.specs.Prelude.{◌≡◌, ◌≤◌, length, take};
 ghost use Rattle.text.specs.Reader.{at};
 ghost use Rattle.text.specs.Room.{put_at, behind};
@@ -114,7 +116,7 @@ fn put_item(out: &mut [u8], at: usize, e: Element, n: u64) -> usize
 }
 
 // A text, at the start of the array.
-#[derive(Drop)]
+#[derive(Clone, Copy)]
 struct Line {
     bytes: [u8; 43],
     length: usize,

@@ -1,4 +1,6 @@
 // The lower temperature limit and formula (35): each question as a condition on a temperature and a pressure, and put to a vapour curve.
+#![tactic(auto)]
+
 ghost use Rattle.std.specs.Prelude.{◌≡◌, ◌≤◌};
 ghost use Rattle.answer.specs.Outcome.{refused, answered, refusal, shown_temperature};
 ghost use Rattle.curve.specs.Curve.{curve, Sound};
@@ -14,7 +16,7 @@ use limits::fuel_limits_at;
 use oxygen::{Purpose, admit};
 
 // A question as a condition, or a refusal and zeros.
-#[derive(Drop)]
+#[derive(Clone, Copy)]
 pub struct Asked {
     pub refusal: Refusal,
     pub condition: Condition,

@@ -1,4 +1,6 @@
 // The C interface, include/jaloosewin.h: thin exported functions, each with the promise of the function that it calls.
+#![tactic(auto)]
+
 ghost use Rattle.std.specs.Prelude.{◌≡◌, List, [], ◌∷◌, ◌≤◌};
 ghost use Rattle.std.proofs.Math.Option.{some, none};
 ghost use Rattle.answer.specs.Outcome.{shown_figure, shown_rounded};
@@ -11,7 +13,7 @@ ghost use Rattle.oxygen.specs.Admission.{oxygen_coefficient};
 ghost use Rattle.oxygen.specs.Stoichiometric.{stoichiometric_fraction};
 ghost use Rattle.blend.specs.Temperature.{OneAtFit};
 ghost use Rattle.blend.specs.Fuel.{text as fuel-text};
-ghost use Rattle.blend.specs.Blend.{blend as blend_of_lem, empty_blend, adding, joining, limits as asked-limits, asking_marked, asking, shown_blend, shown_limits, limits_told};
+ghost use Rattle.blend.specs.Blend.{blend as blend_of, empty_blend, adding, joining, limits as asked-limits, asking_marked, asking, shown_blend, shown_limits, limits_told};
 ghost use Rattle.blend.specs.Calls.{Call};
 ghost use Rattle.blend.specs.Claims.{Claims};
 ghost use Rattle.blend.specs.Marks.{MarksAlike};
@@ -129,7 +131,7 @@ pub extern "C" fn jlw_add_fuel(
     text: &[u8],
     parts: u64,
 ) -> Blended
-    ensures { result ≡ shown_blend (blend_of_lem total lower upper) (adding (blend_of_lem total lower upper) (fuel-text text.now) parts) }
+    ensures { result ≡ shown_blend (blend_of total lower upper) (adding (blend_of total lower upper) (fuel-text text.now) parts) }
 {
     blend::add_fuel_text(
         Blend {
@@ -151,7 +153,7 @@ pub extern "C" fn jlw_join_blends(
     other_lower: u64,
     other_upper: u64,
 ) -> Blended
-    ensures { result ≡ shown_blend (blend_of_lem total lower upper) (joining (blend_of_lem total lower upper) (blend_of_lem other_total other_lower other_upper)) }
+    ensures { result ≡ shown_blend (blend_of total lower upper) (joining (blend_of total lower upper) (blend_of other_total other_lower other_upper)) }
 {
     let first = Blend {
         total,
@@ -168,9 +170,9 @@ pub extern "C" fn jlw_join_blends(
 
 #[unsafe(no_mangle)]
 pub extern "C" fn jlw_blend_limits(total: u64, lower: u64, upper: u64) -> Limits
-    ensures value { result ≡ shown_limits (asking_marked (blend_of_lem total lower upper) (asked-limits none)) }
+    ensures value { result ≡ shown_limits (asking_marked (blend_of total lower upper) (asked-limits none)) }
     ensures at_most { (result.lower ≤ 10000) × (result.upper ≤ 10000) }
-    ensures in_claim { limits_told result ≡ asking (blend_of_lem total lower upper) (asked-limits none) }
+    ensures in_claim { limits_told result ≡ asking (blend_of total lower upper) (asked-limits none) }
 {
     blend::blend_limits(Blend {
         total,
@@ -186,10 +188,10 @@ pub extern "C" fn jlw_blend_limits_at(
     upper: u64,
     temperature: i64,
 ) -> Limits
-    ensures value { result ≡ shown_limits (asking_marked (blend_of_lem total lower upper) (asked-limits (some temperature))) }
+    ensures value { result ≡ shown_limits (asking_marked (blend_of total lower upper) (asked-limits (some temperature))) }
     ensures at_most { (result.lower ≤ 10000) × (result.upper ≤ 10000) }
     ensures at_fit { OneAtFit }
-    ensures in_claim { limits_told result ≡ asking (blend_of_lem total lower upper) (asked-limits (some temperature)) }
+    ensures in_claim { limits_told result ≡ asking (blend_of total lower upper) (asked-limits (some temperature)) }
 {
     blend::blend_limits_at(
         Blend {

@@ -1,4 +1,6 @@
 // The limits of a fuel alone, which is a blend of it at 1 part, and its mass concentration at them.
+#![tactic(auto)]
+
 ghost use Rattle.std.specs.Prelude.{◌≡◌, ◌≤◌};
 ghost use Rattle.std.proofs.Math.Option.{some, none};
 ghost use Rattle.blend.specs.Fuel.{counts};

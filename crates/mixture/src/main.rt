@@ -1,4 +1,10 @@
 // Reads a mixture sheet from standard input and writes its answer to standard output.
-fn main() {
-    mixture_run::run(0);
+#![tactic(auto)]
+
+// Where a write fails, a line on standard error says why.
+fn main(rt: HostRuntime) {
+    match mixture_run::run(&mut rt.stdin(), &mut rt.stdout()) {
+        Ok(()) => {}
+        Err(error) => mixture_run::complain(&rt, "mixture: standard output", error),
+    }
 }

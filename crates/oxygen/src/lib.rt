@@ -1,4 +1,6 @@
 // The oxygen coefficient of a fuel, which fuels are admitted to what, and the stoichiometric fraction.
+#![tactic(auto)]
+
 ghost use Rattle.std.specs.Prelude.{◌≡◌, ◌≤◌};
 ghost use Rattle.std.proofs.Math.Option.{get_or};
 ghost use Rattle.answer.specs.Outcome.{shown_figure, shown_rounded};
@@ -17,7 +19,7 @@ const ADDED: [u8; 10] = [4, 1, 0, 0, 4, 10, 0, 0, 0, 0];
 const TAKEN: [u8; 10] = [0, 0, 2, 0, 0, 0, 1, 1, 1, 0];
 
 // What a fuel is admitted to.
-#[derive(Drop)]
+#[derive(Clone, Copy)]
 pub enum Purpose {
     OxygenCoefficient,
     GasLimits,

@@ -1,4 +1,6 @@
 // Quotients of whole numbers by shifts, compares and subtractions: exact, and rounded once with their mark. No file divides but by a constant power of two.
+#![tactic(auto)]
+
 ghost use Rattle.std.specs.Prelude.{◌≡◌, cond, leb, ◌≤◌, ◌<◌, pos, neg_ℤ, nat_abs};
 ghost use Rattle.rounding.specs.Round.{divided, round_div, round_div_ℤ};
 ghost use Rattle.rounding.specs.Rounds.{Rounds, Rounds_ℤ};
@@ -7,7 +9,7 @@ ghost use Rattle.rounding.specs.Internal.{Doubled};
 use answer::{Rounded, RoundedSigned};
 
 #[repr(C)]
-#[derive(Drop)]
+#[derive(Clone, Copy)]
 pub struct Quotient {
     pub quotient: u64,
     pub remainder: u64,

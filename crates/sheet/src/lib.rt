@@ -1,11 +1,13 @@
 // The mixture sheet: its answer, and the answer as text.
+#![tactic(auto)]
+
 ghost use Rattle.std.specs.Prelude.{◌≡◌, true};
 ghost use Rattle.std.proofs.Math.Option.{none, get_or};
 ghost use Rattle.answer.specs.Outcome.{refused, refusal};
 ghost use Rattle.text.specs.Bytes.{byte};
 ghost use Rattle.text.specs.Decimal.{digit_from};
-ghost use Rattle.csv.specs.Lines.{all};
-ghost use Rattle.csv.specs.Sheet.{records, first_bad_record};
+ghost use Rattle.csv_form.specs.Lines.{all};
+ghost use Rattle.csv_form.specs.Sheet.{records, first_bad_record};
 ghost use Rattle.blend.specs.Fuel.{text as fuel-text};
 ghost use Rattle.blend.specs.Blend.{empty_blend, adding, shown_blend, shown_limits};
 ghost use Rattle.sheet.specs.Mixture.{is_parts, good_mixture, spelled_from, record_formula, record_parts, adding_all, sheet_answer};
@@ -14,7 +16,7 @@ ghost use Rattle.sheet.specs.Internal.{Splits};
 
 use answer::Refusal;
 use blend::{Blend, Blended, Limits, add_fuel_text, blend_limits, empty_blend, no_limits};
-use csv::{field_at, is_formed, is_headed, line_at};
+use csv_form::{field_at, is_formed, is_headed, line_at};
 use text::is_digit_from;
 
 mod report;
@@ -51,7 +53,7 @@ fn is_parts(s: &[u8]) -> bool
 }
 
 // The two fields of a record: where the formula ends, and where the parts begin and end.
-#[derive(Drop)]
+#[derive(Clone, Copy)]
 struct Columns {
     formula: usize,
     start: usize,

@@ -50,7 +50,7 @@ fn put_answer(out: &mut [u8], at: usize, answer: Limits) -> usize
 }
 
 // A text, at the start of the array.
-#[derive(Drop)]
+#[derive(Clone, Copy)]
 struct Report {
     bytes: [u8; 76],
     length: usize,

@@ -1,4 +1,6 @@
 // The functions that tests call from outside, tests/testing.h: each with the promise of the function that it calls.
+#![tactic(auto)]
+
 ghost use Rattle.std.specs.Prelude.{◌≡◌, ◌≤◌};
 ghost use Rattle.std.proofs.Math.Option.{some};
 ghost use Rattle.answer.specs.Outcome.{shown_figure, shown_temperature, shown_rounded, shown_rounded_temperature};

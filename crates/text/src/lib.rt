@@ -1,4 +1,6 @@
 // Bytes of text: reading one, and putting text and numbers into a lent buffer.
+#![tactic(auto)]
+
 ghost use Rattle.std.specs.Prelude.{◌≡◌, ◌+◌, ◌≤◌, ◌<◌, length, get_or, drop};
 ghost use Rattle.answer.specs.Outcome.{refused, refusal};
 ghost use Rattle.text.specs.Bytes.{byte};
@@ -10,7 +12,7 @@ use answer::Refusal;
 
 // The length of a text that was written, or a refusal and 0.
 #[repr(C)]
-#[derive(Drop)]
+#[derive(Clone, Copy)]
 pub struct Written {
     pub refusal: Refusal,
     pub length: u64,
@@ -97,7 +99,7 @@ fn digit(n: u64) -> u8
 }
 
 // A number's decimal digits, at the end of the array from a position on.
-#[derive(Drop)]
+#[derive(Clone, Copy)]
 struct Digits {
     bytes: [u8; 20],
     start: usize,

@@ -1,4 +1,6 @@
 // The worked examples: every figure that document 01 marks for proof, and those added with change requests, as one proved statement over one table.
+#![tactic(auto)]
+
 ghost use Rattle.std.specs.Prelude.{◌≡◌, length};
 ghost use Rattle.worked.specs.Worked.{examples, AllAsPrinted};
 

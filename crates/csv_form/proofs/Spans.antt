@@ -8,8 +8,8 @@ use native.Mathlib.Decide.{dec_le}
 use native.Mathlib.Omega.{arith}
 use lib.ListN.{length, take, drop, drop_of_length-le, length-drop}
 use lib.Seq.{drop-cons, drop-drop, drop-length}
-use Rattle.csv.specs.declared.Span.{Span}
-use Rattle.csv.specs.Lines.{before, span_at}
+use Rattle.csv_form.specs.declared.Span.{Span}
+use Rattle.csv_form.specs.Lines.{before, span_at}
 
 abbrev span : ℕ → ℕ → Span
 span end next = record { end = end; next = next }

@@ -4,7 +4,7 @@ use Rattle.std.specs.Prelude.{Bool, not, ◌&&◌, List, [], ℕ, ◌-◌, leb, 
 use Rattle.std.proofs.Math.Option.{Option}
 use Rattle.answer.specs.Lowest.{lowest}
 use Rattle.text.specs.Bytes.{same}
-use Rattle.csv.specs.Lines.{lines, line, fields, all, plain}
+use Rattle.csv_form.specs.Lines.{lines, line, fields, all, plain}
 
 -- at most 64 KiB, and the first line is the header
 unfoldable pub headed : List ℕ → List ℕ → Bool

@@ -1,13 +1,15 @@
 // RFC 4180 text: the lines of a text, the fields of a line, the form of a record, and a sheet's header.
+#![tactic(auto)]
+
 ghost use Rattle.std.specs.Prelude.{◌≡◌, cond, ◌≤◌, ◌<◌, length, drop};
-ghost use Rattle.csv.specs.Lines.{crlf, line_at, field_at, plain};
-ghost use Rattle.csv.specs.Sheet.{headed, formed};
+ghost use Rattle.csv_form.specs.Lines.{crlf, line_at, field_at, plain};
+ghost use Rattle.csv_form.specs.Sheet.{headed, formed};
 
 use text::byte_at;
 
 // A line of a text or a field of a line: where it ends, and where the next one begins; both are at most the text's length. A field that ends there is the
 // last one, and a line is where the next would begin there.
-#[derive(Drop)]
+#[derive(Clone, Copy)]
 pub struct Span {
     pub end: usize,
     pub next: usize,
@@ -96,5 +98,5 @@ pub fn is_headed(s: &[u8], header: &[u8]) -> bool
     }
     let line = line_at(s, 0);
     let end = line.end;
-    check::same(&s[..end], header)
+    &s[..end] == header
 }

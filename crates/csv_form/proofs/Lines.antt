@@ -12,9 +12,9 @@ use lib.Seq.{get_or-drop}
 use Rattle.answer.proofs.Tests.{both}
 use Rattle.text.specs.Bytes.{byte}
 use Rattle.text.proofs.Readers.{inside}
-use Rattle.csv.specs.declared.Span.{Span}
-use Rattle.csv.specs.Lines.{crlf, before, line, lines, line_at}
-use Rattle.csv.proofs.Spans.{before-yes, before-no, span-order, span-further, span-bytes, span-next}
+use Rattle.csv_form.specs.declared.Span.{Span}
+use Rattle.csv_form.specs.Lines.{crlf, before, line, lines, line_at}
+use Rattle.csv_form.proofs.Spans.{before-yes, before-no, span-order, span-further, span-bytes, span-next}
 
 -- CRLF at i, by its bytes; it is within the text
 module _ (s : List ℕ) (i : ℕ) where

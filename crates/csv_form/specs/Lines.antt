@@ -1,7 +1,7 @@
 -- The lines of RFC 4180 text, and the fields of a line. No field is quoted: a sheet with a quote mark is bad.
 use Rattle.std.specs.Prelude.{Bool, true, cond, not, ◌&&◌, List, [], ◌∷◌, ℕ, ◌+◌, min, eqb, length, get_or, drop}
 use Rattle.text.specs.Bytes.{byte}
-use Rattle.csv.specs.declared.Span.{Span}
+use Rattle.csv_form.specs.declared.Span.{Span}
 
 -- a text begins with CRLF, and with a comma
 unfoldable pub crlf : List ℕ → Bool

@@ -13,11 +13,11 @@ use lib.Seq.{get_or-drop, drop-drop}
 use Rattle.answer.specs.Lowest.{lowest, IsLowest}
 use Rattle.answer.proofs.Lowest.{is-lowest, lowest-here, lowest-later, lowest-end}
 use Rattle.text.proofs.Readers.{same-is}
-use Rattle.csv.specs.declared.Span.{Span}
-use Rattle.csv.specs.Lines.{crlf, line, lines, line_at}
-use Rattle.csv.specs.Sheet.{headed, records, bad_at, first_bad_record}
-use Rattle.csv.proofs.Spans.{span-bytes}
-use Rattle.csv.proofs.Lines.{line-order, lines_next, lines_none}
+use Rattle.csv_form.specs.declared.Span.{Span}
+use Rattle.csv_form.specs.Lines.{crlf, line, lines, line_at}
+use Rattle.csv_form.specs.Sheet.{headed, records, bad_at, first_bad_record}
+use Rattle.csv_form.proofs.Spans.{span-bytes}
+use Rattle.csv_form.proofs.Lines.{line-order, lines_next, lines_none}
 
 -- A WALK that has passed n records and comes to the position `at`
 pub record Walk (s : List ℕ) (at n : ℕ) : Type 0 where

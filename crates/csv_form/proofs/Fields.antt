@@ -12,9 +12,9 @@ use lib.ListN.{length, get_or, take, drop, drop_of_length-le, length-drop}
 use lib.Seq.{get_or-drop, drop-cons, drop-drop}
 use Rattle.answer.proofs.Tests.{both}
 use Rattle.text.specs.Bytes.{byte}
-use Rattle.csv.specs.declared.Span.{Span}
-use Rattle.csv.specs.Lines.{comma, push, before, field, fields, field_at, all}
-use Rattle.csv.proofs.Spans.{sized, span-bytes, span-next}
+use Rattle.csv_form.specs.declared.Span.{Span}
+use Rattle.csv_form.specs.Lines.{comma, push, before, field, fields, field_at, all}
+use Rattle.csv_form.proofs.Spans.{sized, span-bytes, span-next}
 
 -- a comma at i
 module _ (l : List ℕ) (i : ℕ) where
