@@ -5,16 +5,17 @@ use Prim.Native.Nat.{ℕ, ◌+◌, ◌-◌, ◌≤◌, ◌<◌}
 use native.Mathlib.Omega.{arith}
 use native.Mathlib.Nat.{mul-le-mul}
 use lib.ListN.{length, take, drop, get_or}
+use lib.Dec.{ltb}
 use lib.Seq.{ext_get_or, take-append_seam}
 use borrow.Author.Tests.{le-ltb, ltb-false, eq-eqb}
 use Rattle.answer.specs.Numbers.{no_formula, count_too_large, no_room}
-use Rattle.answer.specs.Outcome.{Outcome, answered}
+use Rattle.answer.specs.Outcome.{Outcome, answered, refuse, refuse_at}
 use Rattle.answer.proofs.Outcomes.{refuse-passed, refuse_at-passed}
 use Rattle.text.specs.Writing.{placed, holding}
 use Rattle.text.proofs.Rooms.{put-fits}
 use Rattle.elements.specs.declared.Element.{Element}
 use Rattle.elements.specs.declared.Atoms.{Atoms}
-use Rattle.elements.specs.Elements.{elements, number, count, atoms}
+use Rattle.elements.specs.Elements.{elements, number, count, atoms, each, first_above, is_empty}
 use Rattle.formula.specs.Grammar.{Count, unwritten, written, value, Formula, last, next, Item, element, group, totals, item_totals}
 use Rattle.hill.specs.Hill.{hill_text}
 use Rattle.formula.specs.Reading.{reading, Outcomes, counted}
@@ -55,9 +56,11 @@ written_back : (a : Atoms) (room t : List ℕ) → length a.count ≡ 10 → wri
 unfolding writing placed
 written_back a room t ten e =
     let h = hill_text a in
-    let p = refuse-passed no_formula 0 _ _ t e in
-    let q = refuse_at-passed count_too_large _ _ t p.1 in
-    let r = refuse-passed no_room 0 _ _ t q.1 in
+    let over = first_above (each 200) a in
+    let long = ltb (length room) (length h) in
+    let p = refuse-passed no_formula 0 (is_empty a) (refuse_at count_too_large over (refuse no_room 0 long (answered h))) t e in
+    let q = refuse_at-passed count_too_large over (refuse no_room 0 long (answered h)) t p.1 in
+    let r = refuse-passed no_room 0 long (answered h) t q.1 in
     let whole : answered h ≡ answered t = r.1 in
     let same : h ≡ t = cc in
     let fits : length t ≤ length room = omega (arith, ap length same, ltb-false (length room) (length h) r.0) in
