@@ -11,7 +11,6 @@ use Rattle.answer.proofs.Outcomes.{apart, and_then-numbered}
 use Rattle.elements.specs.declared.Atoms.{Atoms}
 use Rattle.elements.specs.Elements.{each}
 use Rattle.elements.specs.Internal.{AtMost200}
-use Rattle.formula.specs.Reading.{reading}
 use Rattle.formula.proofs.Texts.{reading-numbered}
 use Rattle.oxygen.specs.declared.Purpose.TheVariants.{GasLimits}
 use Rattle.oxygen.specs.Admission.{admission}

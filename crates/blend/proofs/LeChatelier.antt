@@ -65,8 +65,8 @@ module _ (s : Side) where
   unfolding held
   from-sums-is b h =
       let u = unit-positive s in
-      let sum_is_lem = is-over (sum_of s b) (unit s) u in
-      let hundredth = is_same {m = sum_of s b} {e = 100 * unit s} (is-by sum_is_lem (is_whole 100) (omega arith)) (omega arith) (omega arith) in
+      let sum_over = is-over (sum_of s b) (unit s) u in
+      let hundredth = is_same {m = sum_of s b} {e = 100 * unit s} (is-by sum_over (is_whole 100) (omega arith)) (omega arith) (omega arith) in
       is_same (is-by (is_whole b.total) hundredth h) h (omega arith)
 
   -- one value, one figure and mark

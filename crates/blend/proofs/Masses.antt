@@ -1,5 +1,4 @@
 -- The molar mass of a fuel as the sum of its elements' masses, in halves.
-use mathlib.Core.Path.{◌≡◌, ◌∙◌}
 use Prim.Native.Nat.{◌≤◌}
 use native.Mathlib.Omega.{arith}
 use Rattle.rounding.proofs.Fractions.{Is, is-over, is_same}

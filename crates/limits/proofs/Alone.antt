@@ -1,7 +1,7 @@
 -- A fuel alone: the paper's formula is Le Chatelier's rule over an entry of 1 part, and what a blend of it at 1 part answers.
 use mathlib.Core.Path.{◌≡◌, refl, sym, ap, ◌∙◌}
 use mathlib.Core.List.{[], ◌∷◌}
-use mathlib.Core.Option.{Option}
+use mathlib.Core.Option.{Option, some}
 use Prim.Native.Nat.{ℕ}
 use native.Mathlib.Omega.{arith}
 use lib.IntN.{ℤ, nat_abs}
@@ -17,9 +17,10 @@ use Rattle.oxygen.specs.Admission.{admission}
 use Rattle.oxygen.proofs.Admissions.{admission-numbered}
 use Rattle.blend.specs.Limit.{Side, lower, upper}
 use Rattle.blend.specs.declared.Blend.{Blend}
+use Rattle.blend.specs.declared.Limits.{Limits}
 use Rattle.blend.specs.Temperature.{meant, gas_outside}
 use Rattle.blend.specs.Fuel.{Fuel, fuel_atoms, admitting, quarters}
-use Rattle.blend.specs.Blend.{limits, LimitPair, empty_blend, adding, asking_marked}
+use Rattle.blend.specs.Blend.{limits, LimitPair, empty_blend, adding, asking_marked, shown_limits}
 use Rattle.blend.specs.Calls.{add, changed, put, answer_to, next, after}
 use Rattle.blend.specs.Model.{entry, Entries, sum, limit_at, rounded_limit, model_adds, model_tells, model_asks_marked}
 use Rattle.blend.proofs.Weights.{limit_is}
@@ -80,3 +81,7 @@ unfolding fuel_limits
 fuel-numbered t a =
     and_then-numbered (admission GasLimits a) _ (admission-numbered GasLimits a)
     (λ q. refuse-numbered gas_temperature_outside 0 (gas_outside (meant t)) _ (omega arith) tt)
+
+-- limits that were asked at a temperature z are those at t where z is t
+pub asked-same : (a : Atoms) (t z : ℤ) (r : Limits) → z ≡ t → r ≡ shown_limits (fuel_limits (some z) a) → r ≡ shown_limits (fuel_limits (some t) a)
+asked-same a t z r e h = rw e at h
