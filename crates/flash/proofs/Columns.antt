@@ -74,7 +74,7 @@ sum-line l t = rw (+ℤ_idl (pos 100 *ℤ l.constant))
 pub sum-terms : (m : ℕ) (b : Bonds) (t s : ℤ) (xs : List ℤ) → s ≡ sum_from (pos 0) (line_terms (row methods m) t) → xs ≡ column m
     → sum_from s (terms_from xs b 0) ≡ sum_from (pos 0) (terms m b t)
 unfolding sum_from line_terms terms terms_from bond_term coefficients
-sum-terms m b t s xs e q = rw (e, q)
+sum-terms m b t s xs e q = rw (e, q) refl
 
 -- the terms of a column from index i on
 module _ (xs : List ℤ) (b : Bonds) (s : ℤ) (i : ℕ) where
