@@ -1,15 +1,10 @@
--- `is_bounded` meets its contract: a slope that is too large alone, then the base beside it.
-use mathlib.Core.Path.{◌≡◌, sym, ◌∙◌}
-use mathlib.Core.Bool.{false}
-use Prim.Native.Nat.{ℕ, ◌+◌, ◌*◌, ◌-◌, ◌≤◌, ◌<◌}
+-- A slope that is too large alone, then the base beside it.
+use Rattle.std.proofs.Common.{◌≡◌, false, ◌+◌, ◌*◌, ◌-◌, ◌≤◌, ◌<◌, leb, sym, ◌∙◌, arith}
 use native.Mathlib.Decide.{dec_lt}
-use native.Mathlib.Omega.{arith}
 use borrow.Author.Tests.{le-leb, lt-leb, le-ltb, lt-ltb}
-use lib.Dec.{leb}
 use Rattle.curve.specs.declared.Condition.{Condition}
 use Rattle.curve.specs.Condition.{bounded}
-use Rattle.curve.proofs.is_bounded.Statement.{statement}
-use Rattle.curve.proofs.is_bounded.Tie as tie
+use Rattle.curve.proofs.is_bounded.Goals as goal
 
 steep : (c : Condition) → 845211641 < c.slope → false ≡ bounded c
 unfolding bounded
@@ -23,11 +18,8 @@ by-base c l = go (dec_lt (73786976294838 - 87300 * c.slope) c.base)
     go (yes h) = lt-leb _ _ h ∙ sym (le-ltb ((c.slope * 87300 + c.base) * 250000) 18446744073709551616 (omega arith))
     go (no h) = le-leb c.base (73786976294838 - 87300 * c.slope) (omega arith) ∙ sym (lt-ltb ((c.slope * 87300 + c.base) * 250000) 18446744073709551616 (omega arith))
 
-pub is-bounded-spec : {M : Type 1} → statement M
-is-bounded-spec =
-    tie.close
-    (tie.spec
-    (λ c. steep _ (omega arith))
-    (λ c. omega arith)
-    (λ c. omega arith)
-    (λ c. by-base _ (omega arith)))
+pub returns-then-c-gt845211641 : goal.returns-then-c-gt845211641
+returns-then-c-gt845211641 c = steep _ (omega arith)
+
+pub returns : goal.returns
+returns c = by-base _ (omega arith)
