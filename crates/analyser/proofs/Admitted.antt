@@ -1,6 +1,6 @@
 -- What a good method and an admitted reading say: amounts, at most 1,000,000 parts. The code's constants 100.0 and 1000000.0.
-use mathlib.Core.Path.{◌≡◌, refl, sym, ap, subst}
-use mathlib.Core.Bool.{Bool, true}
+use mathlib.Core.Path.{◌≡◌, refl, ap}
+use mathlib.Core.Bool.{true}
 use Prim.Native.Nat.{ℕ, ◌*◌, ◌≤◌}
 use native.Mathlib.Nat.{mul-le-mul_left, le_of_mul-le-mul_right}
 use native.Mathlib.Omega.{arith}
@@ -8,6 +8,7 @@ use lib.Dec.{T}
 use lib.Ieee.{Float, binary64, of_bits}
 use lib.Ieee.Positive.{num, den, den_pos}
 use borrow.Author.Tests.{leb-true}
+use Rattle.std.specs.Bool.{passes}
 use Rattle.answer.proofs.Tests.{both}
 use Rattle.rounding.specs.Round.{rounded_value, round_div}
 use Rattle.rounding.specs.Fraction.{Fraction, ◌over◌, whole, ◌⊠◌, ◌⊑◌, at_most, rounded}
@@ -16,15 +17,12 @@ use Rattle.analyser.specs.declared.Method.{Method}
 use Rattle.analyser.specs.Reading.{is_amount, amount, up_to, good_method}
 use Rattle.analyser.specs.Internal.{Top}
 
-truly : (b : Bool) → b ≡ true → T b
-truly b e = subst T (sym e) tt
-
 pub amount-is : (x : Float) → Is (amount x) (num x) (den x)
 amount-is x = is-over (num x) (den x) (den_pos x)
 
 pub up-to-amount : (x : Float) (f : Fraction) → up_to x f ≡ true → T (is_amount x)
 unfolding up_to
-up-to-amount x f e = truly (is_amount x) (both (is_amount x) (at_most (amount x) f) e).0
+up-to-amount x f e = passes (is_amount x) (both (is_amount x) (at_most (amount x) f) e).0
 
 up-to-most : (x y : Float) → up_to x (amount y) ≡ true → amount x ⊑ amount y
 unfolding up_to at_most ◌over◌

@@ -40,6 +40,10 @@ signed true m u d p = eq→eqb {a = m * u * d} {b = 0} (rw (eqb→eq m 0 p, zero
 
 pub le_is : (x y : Float) → T (is_amount x) → T (is_amount y) → le x y ≡ at_most (amount x) (amount y)
 unfolding le lt eq at_most ◌over◌
+le_is nan y p q = absurd p
+le_is (inf s) y p q = absurd p
+le_is (fin s m e) nan p q = absurd q
+le_is (fin s m e) (inf t) p q = absurd q
 le_is (fin s m e) (fin t n d) p q = le-signed s (m * up e * down d) t (n * up d * down e) (signed s m (up e) (down d) p) (signed t n (up d) (down e) q)
 
 -- FROM ZERO, which the code has as 0.0, by its bits
@@ -63,6 +67,8 @@ both true x y p q = le_is x y (subst T (sym p) tt) q
 from-zero-to : (x y : Float) → T (is_amount y) → (le (fin false 0 (pos 0)) x && le x y) ≡ up_to x (amount y)
 unfolding le lt eq up_to
 from-zero-to nan y q = refl
+from-zero-to (inf s) nan q = absurd q
+from-zero-to (inf s) (inf t) q = absurd q
 from-zero-to (inf true) (fin t n d) q = refl
 from-zero-to (inf false) (fin t n d) q = refl
 from-zero-to (fin s m e) y q = ap (λ (b : Bool). b && le (fin s m e) y) (from_zero s m e) ∙ both (is_amount (fin s m e)) (fin s m e) y refl q

@@ -1,7 +1,7 @@
 -- What an analyser's reading says in whole parts per million (document 01, "Analyser readings").
--- A float means its exact value: a finite one is its sign and the fraction num x / den x (the kit's lib.Ieee.Positive). No float operation stands here.
+-- A float means its exact value: a finite one is its sign and the fraction num x / den x (std's Float.Ieee.Positive). No float operation stands here.
 use Rattle.std.specs.Prelude.{ℕ, Bool, false, not, ◌&&◌, ◌||◌, cond, eqb}
-use lib.Ieee.{Float, nan, inf, fin}
+use Rattle.std.specs.Float.Ieee.{Float, nan, inf, fin}
 use Rattle.std.specs.Float.Ieee.Positive.{num, den}
 use Rattle.answer.specs.Numbers.{bad_reading}
 use Rattle.answer.specs.Outcome.{Outcome, refused, answered, refusal, refuse}
