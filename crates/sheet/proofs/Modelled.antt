@@ -8,7 +8,7 @@ use Rattle.answer.specs.declared.Refusal.{Refusal}
 use Rattle.answer.specs.declared.Rounded.{Rounded}
 use Rattle.answer.specs.Numbers.{bad_sheet}
 use Rattle.answer.specs.Outcome.{Outcome, refused, answered, refuse, refuse_at, value_of, and_then}
-use Rattle.csv.specs.Sheet.{headed, records, first_bad_record}
+use Rattle.csv_form.specs.Sheet.{headed, records, first_bad_record}
 use Rattle.blend.specs.declared.Blend.{Blend}
 use Rattle.blend.specs.Fuel.{text}
 use Rattle.blend.specs.Calls.{changed, put, next, answers, answer_to, after}

@@ -1,7 +1,7 @@
 -- Laws of parts: by the tests that the code makes in turn, and the number that the digits spell.
 use mathlib.Core.Path.{◌≡◌, refl, sym, ◌∙◌}
 use mathlib.Core.Bool.{Bool, true, false, not, ◌&&◌}
-use mathlib.Core.List.{List, []}
+use mathlib.Core.List.{List}
 use Prim.Native.Nat.{ℕ, ◌+◌, ◌*◌, ◌-◌, ◌^◌, ◌≤◌, ◌<◌}
 use native.Mathlib.Nat.{pow-suc, pow-le-pow_right}
 use native.Mathlib.Numerals.{add-one}
@@ -13,9 +13,9 @@ use lib.Seq.{drop-cons}
 use Rattle.answer.proofs.Tests.{both}
 use Rattle.text.specs.Bytes.{byte}
 use Rattle.text.specs.Decimal.{digit_from}
-use Rattle.csv.specs.Lines.{all}
+use Rattle.csv_form.specs.Lines.{all}
 use Rattle.text.proofs.Decimals.{digit-bounds}
-use Rattle.csv.proofs.Fields.{all_here}
+use Rattle.csv_form.proofs.Fields.{all_here}
 use Rattle.sheet.specs.Mixture.{is_parts, spelled_from}
 
 abbrev pub digits : List ℕ → Bool

@@ -6,12 +6,12 @@ use native.Mathlib.Omega.{arith}
 use lib.ListN.{length, take, drop, drop_of_length-le}
 use Rattle.answer.specs.Outcome.{Outcome, refused, answered, refusal, and_then}
 use Rattle.answer.specs.Internal.{Numbered}
-use Rattle.csv.specs.declared.Span.{Span}
-use Rattle.csv.specs.Lines.{comma, line_at, field_at}
-use Rattle.csv.specs.Sheet.{records}
-use Rattle.csv.proofs.Spans.{span-order}
-use Rattle.csv.proofs.Fields.{field-here, field-later}
-use Rattle.csv.proofs.Sheets.{Walk, walk-starts, walk_ends, walk_more, walk-next}
+use Rattle.csv_form.specs.declared.Span.{Span}
+use Rattle.csv_form.specs.Lines.{comma, line_at, field_at}
+use Rattle.csv_form.specs.Sheet.{records}
+use Rattle.csv_form.proofs.Spans.{span-order}
+use Rattle.csv_form.proofs.Fields.{field-here, field-later}
+use Rattle.csv_form.proofs.Sheets.{Walk, walk-starts, walk_ends, walk_more, walk-next}
 use Rattle.blend.specs.declared.Blend.{Blend}
 use Rattle.blend.specs.declared.Blended.{Blended}
 use Rattle.blend.specs.Fuel.{text}

@@ -4,7 +4,7 @@ use Rattle.std.proofs.Math.Option.{Option, some, none}
 use Rattle.answer.specs.declared.Refusal.{Refusal}
 use Rattle.answer.specs.Numbers.{bad_sheet}
 use Rattle.answer.specs.Outcome.{Outcome, refused, refusal, refuse, refuse_at}
-use Rattle.csv.specs.Sheet.{headed, records, first_bad_record}
+use Rattle.csv_form.specs.Sheet.{headed, records, first_bad_record}
 use Rattle.blend.specs.Fuel.{text}
 use Rattle.blend.specs.Blend.{limits}
 use Rattle.blend.specs.Calls.{Call, add, Answer, done, told, declined}

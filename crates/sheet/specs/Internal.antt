@@ -1,6 +1,6 @@
 -- What is said of a record by the positions of its fields in the line. No public promise cites this file.
 use Rattle.std.specs.Prelude.{◌≡◌, List, [], ℕ, ◌-◌, ◌≤◌, length, get_or, take, drop}
-use Rattle.csv.specs.Lines.{fields}
+use Rattle.csv_form.specs.Lines.{fields}
 use Rattle.sheet.specs.declared.Columns.{Columns}
 use Rattle.sheet.specs.Mixture.{record_formula}
 

@@ -6,8 +6,8 @@ use Rattle.answer.specs.declared.Rounded.{Rounded}
 use Rattle.answer.specs.Outcome.{Outcome, refused, answered, refusal, refuse, refuse_at, and_then}
 use Rattle.text.specs.Bytes.{byte, bytes}
 use Rattle.text.specs.Decimal.{digit_from}
-use Rattle.csv.specs.Lines.{fields, all}
-use Rattle.csv.specs.Sheet.{headed, records, good_record, first_bad_record}
+use Rattle.csv_form.specs.Lines.{fields, all}
+use Rattle.csv_form.specs.Sheet.{headed, records, good_record, first_bad_record}
 use Rattle.blend.specs.declared.Blend.{Blend}
 use Rattle.blend.specs.Fuel.{text}
 use Rattle.blend.specs.Blend.{empty_blend, adding, limits, LimitPair, asking_marked}

@@ -8,8 +8,8 @@ use Rattle.answer.specs.Outside.{outside}
 use Rattle.rounding.specs.Round.{rounded_value, mark_of, round_div, round_div_ℤ}
 use Rattle.rounding.specs.Fraction.{◌over◌, whole, ◌⊞◌, ◌⊠◌, ◌⊘◌, rounded, at_most}
 use Rattle.text.specs.Decimal.{decimal, digit_from}
-use Rattle.csv.specs.Lines.{crlf, comma, lines, fields, before, all, plain}
-use Rattle.csv.specs.Sheet.{headed, records, formed, good_record}
+use Rattle.csv_form.specs.Lines.{crlf, comma, lines, fields, before, all, plain}
+use Rattle.csv_form.specs.Sheet.{headed, records, formed, good_record}
 use Rattle.elements.specs.Elements.{first_above}
 use Rattle.formula.specs.Reader.{symbol_of, multiple_of, read_item, read_items}
 use Rattle.formula.specs.Reading.{reading, formula_read}
@@ -32,10 +32,9 @@ use Rattle.analyser.specs.Reading.{up_to, good_method, converted, measured, part
 use Rattle.sheet.specs.Mixture.{is_parts, spelled_from, adding_all, sheet_answer}
 use Rattle.sheet.specs.Answer.{percent, limits_line, answer_line, answer_text}
 use Rattle.worked.specs.Worked.{examples, AsPrinted}
-use Rattle.worked.proofs.worked_examples.Statement.{statement}
-use Rattle.worked.proofs.worked_examples.Tie as tie
+use Rattle.worked.proofs.worked_examples.Goals as goal
 
-returns : tie.Need-returns
+pub returns-clause-printed : goal.returns-clause-printed
 unfolding reading formula_read read_items read_item symbol_of multiple_of digit_from first_above lowest outside
     beta admission not_admitted stoichiometric_fraction stoichiometric slope constant divisor limit_of correction rounded_fuel_limit fuel_limits
     molar_mass molar_volume concentration mass_concentration rounded_value mark_of round_div round_div_ℤ ◌over◌ whole ◌⊞◌ ◌⊠◌ ◌⊘◌ rounded at_most
@@ -46,11 +45,8 @@ unfolding reading formula_read read_items read_item symbol_of multiple_of digit_
     crlf comma lines fields before all plain headed records formed good_record is_parts spelled_from adding_all sheet_answer
     round up_to good_method converted measured parts_of
     decimal percent limits_line answer_line answer_text
-returns c =
+returns-clause-printed c =
     let from-30 : AsPrinted (drop 30 examples) = (refl, (refl, (refl, tt))) in
     let from-20 : AsPrinted (drop 20 examples) = (refl, (refl, (refl, (refl, (refl, (refl, (refl, (refl, (refl, (refl, from-30)))))))))) in
     let from-10 : AsPrinted (drop 10 examples) = (refl, (refl, (refl, (refl, (refl, (refl, (refl, (refl, (refl, (refl, from-20)))))))))) in
-    (refl, (refl, (refl, (refl, (refl, (refl, (refl, (refl, (refl, (refl, (refl, from-10)))))))))))
-
-pub worked-examples-spec : {M : Type 1} → statement M
-worked-examples-spec = tie.close (tie.spec returns)
+    (refl, (refl, (refl, (refl, (refl, (refl, (refl, (refl, (refl, (refl, from-10))))))))))
