@@ -1,6 +1,6 @@
 """No whole number is divided but by a constant power of two.
 
-tests/divisions.py sources: in every .rt file below crates/, `/`, `%`, `/=` and `%=` stand only before a literal that is a power of two, or the name of a
+tests/divisions.py sources: in every .rt file of a crate's src/, `/`, `%`, `/=` and `%=` stand only before a literal that is a power of two, or the name of a
 constant that the same file gives as such a literal; `/` may also stand between two float literals. tests/divisions.py code FILE..: the machine code of an
 archive or object has no divide instruction, has no division routine, and calls nothing but C's memory functions. Each test is first tried on made-up files,
 each wrong form among them, so that it can fail."""
@@ -162,7 +162,7 @@ RIGHT_SOURCES = [
     "/* n / d /* n % d */ n / 10 */",
     'let a = b"/ d % d \\" / d"; let b = b\'/\'; let c = br"/ d \\";',
 ]
-AROUND = """ghost use Prim.Native.Nat.{{_/_, _%_}};
+AROUND = """ghost use Rattle.std.specs.Prelude.{{◌≡◌, ◌/◌, ◌%◌}};
 use sizes::TEN as RENAMED;
 const TEN: u64 = 10;
 const SUM: u64 = 4 + 1;
@@ -174,9 +174,10 @@ impl Size {{
     const INNER: u64 = 8;
 }}
 fn other(n: u64, INNER: u64) -> u64
-    requires clause {{ ⌜ INNER / 3 ≡ n % d ⌝ -- n / d " {{
-        ⌜ byte "}}" ≡ n / d ⌝ }}
-    ensures {{ λ r. ⌜ r ≡ f {{n = n}} (n / d) ⌝ }}
+    requires clause {{ INNER / 3 ≡ n % d -- n / d " {{
+        × byte "}}" ≡ n / d }}
+    requires* other {{ ⌜ n ≡ n / d ⌝ }}
+    ensures {{ result ≡ f {{n = n}} (n / d) }}
 {{
     {}
 }}
@@ -212,7 +213,7 @@ def try_code(folder):
 def main(kind, *files):
     """Answers the exit status."""
     if kind == "sources":
-        files, attempt, look = sorted(pathlib.Path("crates").rglob("*.rt")), try_sources, faults_in_source
+        files, attempt, look = sorted(pathlib.Path("crates").glob("*/src/**/*.rt")), try_sources, faults_in_source
     else:
         attempt, look = try_code, faults_in_code
     with tempfile.TemporaryDirectory() as folder:

@@ -29,15 +29,19 @@ def is_defined(name, source):
     return re.search(rf"^\s*(?:pub |abbrev |unfoldable |data |record |fn |let )*{word}(?![\w-])|^\w+ {word} =", source, re.M)
 
 
-# Paths, but for those with NAME, FUNCTION or LABEL for any name. In docs/PROMISES.md those of a section's crates are looked at below.
+# Paths, but for what the kit builds in a crate's out/ and those with NAME, FUNCTION or LABEL for any name. In docs/PROMISES.md those of a section's crates are
+# looked at below.
 for document, text in texts.items():
     for path in re.findall(r"(?<![\w./])(?:crates|docs|tests|include|specs|proofs|src)/[\w./+-]*\w", text):
-        if re.search(r"NAME|FUNCTION|LABEL", path) or (document == "docs/PROMISES.md" and not path.startswith(("crates/", "docs/", "tests/"))):
+        if re.search(r"NAME|FUNCTION|LABEL|/out/", path) or (document == "docs/PROMISES.md" and not path.startswith(("crates/", "docs/", "tests/"))):
             continue
         if not pathlib.Path(path).exists():
             faults.append(f"{document}: {path} does not exist")
 
+# A file that is not there is told above.
 for names, file in re.findall(r"((?:`[^`\s]+`(?:,| at| and)?\s+)+)\((crates/[\w/.]+)\)", texts["docs/RULES.md"]):
+    if not pathlib.Path(file).exists():
+        continue
     for name in re.findall(r"`([^`]+)`", names):
         if not is_defined(name, pathlib.Path(file).read_text()):
             faults.append(f"docs/RULES.md: {name} is not defined in {file}")
