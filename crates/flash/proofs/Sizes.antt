@@ -3,9 +3,10 @@ use mathlib.Core.Path.{◌≡◌, refl, ap₂}
 use Prim.Native.Nat.{ℕ, ◌+◌, ◌*◌, ◌^◌, ◌<◌, ◌≤◌}
 use native.Mathlib.Nat.{mul-le-mul}
 use native.Mathlib.Omega.{arith}
-use lib.IntN.{ℤ, nat_abs, ◌+ℤ◌, ◌*ℤ◌}
+use lib.IntN.{ℤ, pos, nat_abs, ◌+ℤ◌, ◌*ℤ◌}
+use mir.Facts.{to_z_pos}
 use mir.Syntax.{w64}
-use mir.Val.{to_z, of_z}
+use mir.Val.{SFits, to_z, of_z}
 use Rattle.rounding.proofs.Signed.{size-add, size-mul, fits-size, read_back}
 
 -- a number read back from its bits
@@ -20,7 +21,13 @@ pub record Sized (n : ℕ) (y z : ℤ) : Type 0 where
 pub sized : (n : ℕ) (z : ℤ) → nat_abs z ≤ n → Sized n z z
 sized n z h = record { is = refl; most = h }
 
+pub whole-sized : (n m : ℕ) → m ≤ n → n < 2 ^ 63 → Sized n (to_z w64 m) (pos m)
+whole-sized n m h l = record { is = to_z_pos w64 {n = m} (omega arith); most = h }
+
 module _ {n : ℕ} {y z : ℤ} (l : n < 2 ^ 63) (s : Sized n y z) where
+  pub sized-fits : SFits w64 y
+  sized-fits = rw s.is (fits-size z (omega (arith, s.most)))
+
   pub read : Sized n (bits y) z
   read = record { is = read_back {w = w64} (fits-size z (omega (arith, s.most))) s.is; most = s.most }
 

@@ -1,12 +1,13 @@
 -- Positions in a text: what its bytes there say, and what is left of it.
-use mathlib.Core.Path.{◌≡◌, refl, ap, ◌∙◌}
+use mathlib.Core.Path.{◌≡◌, refl, sym, ap, ◌∙◌}
 use mathlib.Core.Bool.{true}
 use mathlib.Core.List.{List, [], ◌∷◌}
 use Prim.Native.Nat.{ℕ, ◌+◌, ◌≤◌, ◌<◌}
 use native.Mathlib.Omega.{arith}
 use native.Mathlib.Nat.{add-zero}
+use lib.Dec.{eqb}
 use lib.ListN.{length, get_or, drop, length-append, length-drop}
-use lib.Seq.{get_or-drop, drop-drop}
+use lib.Seq.{drop-length, drop-cons, get_or-drop, drop-drop}
 use Rattle.text.specs.Reader.{at, stuck}
 use Rattle.elements.specs.declared.Element.{Element}
 use Rattle.elements.specs.Elements.{Totals, number, symbol, one, times}
@@ -14,7 +15,7 @@ use Rattle.elements.proofs.Elements.{letters, number-from}
 use Rattle.formula.specs.declared.Multiple.{Multiple}
 use Rattle.formula.specs.declared.Spelling.{Spelling}
 use Rattle.formula.specs.Grammar.{digits}
-use Rattle.formula.specs.Reader.{Symbol, named, half, absent, symbol_of, symbol_at, multiple_of, multiple_at, counting, symbolic, read_element}
+use Rattle.formula.specs.Reader.{Symbol, named, half, absent, symbol_of, symbol_at, multiple_of, multiple_at, counting, symbolic, read_element, ends}
 use Rattle.formula.specs.Internal.{spelling, Adds, Says, advanced}
 use Rattle.formula.proofs.Counts.{counts, count-read}
 use Rattle.formula.proofs.Symbols.{Headed, headed, first-letter, symbol-long}
@@ -48,6 +49,13 @@ spelled t absent z = absurd (z refl)
 
 -- a text s and a position p
 module _ (s : List ℕ) (p : ℕ) where
+  -- the end
+  pub ends-here : p ≡ length s → true ≡ ends (drop p s)
+  ends-here e = sym (ap (λ (q : ℕ). ends (drop q s)) e ∙ ap ends (drop-length s))
+
+  pub ends-before : p < length s → eqb (get_or s p 0) 41 ≡ ends (drop p s)
+  ends-before l = sym (ap ends (drop-cons s p 0 l))
+
   -- the byte
   pub byte-here : at (drop p s) 0 ≡ get_or s p 0
   byte-here = get_or-drop p s 0 0 ∙ ap (λ (k : ℕ). get_or s k 0) (add-zero p)

@@ -15,9 +15,13 @@ use Rattle.formula.specs.Reader.{symbol_of, counting, ends, plus_read, then, ite
 use Rattle.formula.specs.Internal.{Counted, Adds, Says, advanced, stopped, zeros}
 use Rattle.formula.proofs.Caps.{from-zeros, adds-more}
 use Rattle.formula.proofs.Positions.{byte-here}
-use Rattle.formula.proofs.Unfold.{item-other, item-open, then-goes}
+use Rattle.formula.proofs.Unfold.{item-other, item-open, then-ends, then-goes}
 
 module _ {s a b : List ℕ} {from : ℕ} {r : Step} where
+  pub says-within : {x : Result Totals} → Says s from a r b x → r.at ≤ length s
+  says-within (advanced p) = p.within
+  says-within (stopped p) = p.within
+
   -- from an earlier position on
   pub says-from : {x : Result Totals} (before : ℕ) → before ≤ from → Says s from a r b x → Says s before a r b x
   says-from before l (advanced p) = advanced (record { good = p.good; further = omega (arith, p.further); within = p.within; left = p.left; adds = p.adds })
@@ -27,6 +31,15 @@ module _ {s a b : List ℕ} {from : ℕ} {r : Step} where
   says-more : {x : Result Totals} (m : Totals) {c : List ℕ} → Adds c m a → Says s from a r b x → Says s from c r b (plus_read m x)
   says-more m f (advanced {m = n} p) = advanced (record { good = p.good; further = p.further; within = p.within; left = p.left; adds = adds-more m n f p.adds })
   says-more m f (stopped p) = stopped p
+
+  -- there are no more items where the reader is stuck, or where the text or a group ends
+  then-stuck : {x : Result Totals} (rest : List ℕ → Result Totals) → r.ok ≡ false → Says s from a r b x → Says s from a r b (then rest x)
+  then-stuck rest q (advanced p) = never r.ok p.good q
+  then-stuck rest q (stopped p) = stopped p
+
+  then-end : {x : Result Totals} (rest : List ℕ → Result Totals) → true ≡ ends (drop r.at s) → Says s from a r b x → Says s from a r b (then rest x)
+  then-end rest e (advanced {m = m} {t = t} p) = rw (then-ends rest m t (sym (e ∙ ap ends (sym p.left)))) (advanced p)
+  then-end rest e (stopped p) = stopped p
 
   -- THE END OF A GROUP, whose formula was read as r: stuck in it, at the end of the text, or at the bracket
   module _ {c d : List ℕ} where
@@ -58,8 +71,14 @@ pub going_start : (s : List ℕ) (from depth : ℕ) (a : List ℕ) → from ≤ 
 unfolding read_items
 going_start s from depth a l = record { within = l; fuel = length (drop from s); enough = omega (arith, length-drop from s); whole = λ r b p. p }
 
--- the turn with more to come
+-- the turn that is stuck, the last one, and one with more to come
 module _ {s : List ℕ} {from depth : ℕ} {a₀ : List ℕ} {at : ℕ} {a : List ℕ} (g : Going s from depth a₀ at a) {r : Step} {b : List ℕ} (p : Says s at a r b (read_item depth (drop at s))) where
+  pub going-stuck : r.ok ≡ false → Says s from a₀ r b (read_items depth (drop from s))
+  going-stuck q = g.whole r b (then-stuck (items (read_item depth) g.fuel) q p)
+
+  pub going_end : true ≡ ends (drop r.at s) → Says s from a₀ r b (read_items depth (drop from s))
+  going_end e = g.whole r b (then-end (items (read_item depth) g.fuel) e p)
+
   pub going_on : r.ok ≡ true → false ≡ ends (drop r.at s) → (at < r.at) × Going s from depth a₀ r.at b
   going_on q e = go p g.fuel g.enough g.whole
     where

@@ -5,6 +5,7 @@ use mathlib.Core.List.{List, [], ◌∷◌, ◌++◌, map, append_assoc, append-
 use Prim.Native.Nat.{ℕ, zero, suc, ◌+◌, ◌≤◌, ◌<◌}
 use native.Mathlib.Numerals.{add-one}
 use native.Mathlib.Omega.{arith}
+use borrow.Author.Tests.{eq-eqb, ne_eqb}
 use lib.Dec.{eqb}
 use lib.ListN.{length, take, get_or, length-append}
 use lib.Seq.{take-suc, take_all}
@@ -18,7 +19,14 @@ use Rattle.elements.specs.declared.Element.TheVariants.{Carbon, Hydrogen, Oxygen
 use Rattle.elements.specs.declared.Atoms.{Atoms}
 use Rattle.elements.specs.Elements.{symbol, Totals, count}
 use Rattle.elements.specs.Internal.{AtMost200}
-use Rattle.hill.specs.Hill.{by_symbol, hill_order, hill_item, joined, hill_text, has, BySymbol}
+use Rattle.hill.specs.Hill.{by_symbol, carbon_first, hill_order, hill_item, joined, hill_text, has, BySymbol}
+
+-- the order, by the count of carbon
+pub order-without-carbon : (a : Atoms) → count a Carbon ≡ 0 → hill_order a ≡ by_symbol
+order-without-carbon a e = rw (eq-eqb (count a Carbon) 0 e)
+
+pub order-with-carbon : (a : Atoms) → 0 < count a Carbon → hill_order a ≡ carbon_first
+order-with-carbon a l = rw (ne_eqb (count a Carbon) 0 (λ e. omega arith))
 
 -- the list by symbol is one
 pub by-symbol : BySymbol

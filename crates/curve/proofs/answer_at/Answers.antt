@@ -2,7 +2,7 @@
 use Rattle.std.proofs.Common.{rules, ◌≡◌, ◌≤◌, ℕ, pos, to_z, w64, arith}
 use Rattle.std.proofs.Math.Facts.{to_z-of_z, to_z_pos}
 use Rattle.curve.specs.Smallest.{clamp}
-use Rattle.curve.proofs.Clamped.{clamped}
+use Rattle.curve.proofs.Signed.{clamped}
 use Rattle.curve.proofs.answer_at.Goals as goal
 use Rattle.curve.proofs.answer_at.Goals.{After-clamp}
 

@@ -6,7 +6,7 @@ use Rattle.answer.specs.Outcome.{answered, refusal_of, shown_figure}
 use Rattle.curve.specs.declared.Segment.{Segment}
 use Rattle.curve.specs.Smallest.{kelvin, clamp}
 use Rattle.curve.specs.Curve.{Curve, curve, points, first, last, accepting, Accepted, between, pressure_at, pressure_asked}
-use Rattle.curve.proofs.Clamped.{clamped}
+use Rattle.curve.proofs.Signed.{clamped}
 use Rattle.curve.proofs.Acceptance.{declined, accepted, many, spans, sloped}
 use Rattle.curve.proofs.Curves.{locate}
 use Rattle.curve.proofs.pressure_at.Goals as goal

@@ -6,7 +6,7 @@ use Rattle.curve.specs.Smallest.{searched}
 use Rattle.curve.specs.Curve.{Curve, curve, points, temperature, pressure, Accepted}
 use Rattle.curve.specs.Condition.{test_of, met_within}
 use Rattle.curve.specs.Internal.{Crossed}
-use Rattle.curve.proofs.Clamped.{clamp-is}
+use Rattle.curve.proofs.Signed.{clamp-is}
 use Rattle.curve.proofs.Conditions.{met-within}
 use Rattle.curve.proofs.Acceptance.{many, range}
 use Rattle.curve.proofs.Searches.{refuses, met_at, fails-throughout, ready, here, search-in}
