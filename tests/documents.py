@@ -16,11 +16,11 @@ def edits_of(crate):
 
 
 def functions_of(crate):
-    """The public functions of a library; a program has none."""
+    """The public functions and methods of a library; a program has none."""
     if not (CRATES / crate / "src/lib.rt").exists():
         return set()
     sources = [path.read_text() for path in (CRATES / crate / "src").glob("*.rt")]
-    return {name for source in sources for name in re.findall(r"^pub (?:extern \"C\" )?fn (\w+)", source, re.M)}
+    return {name for source in sources for name in re.findall(r"^\s*pub (?:extern \"C\" )?fn (\w+)", source, re.M)}
 
 
 def is_defined(name, source):
@@ -48,7 +48,7 @@ for names, file in re.findall(r"((?:`[^`\s]+`(?:,| at| and)?\s+)+)\((crates/[\w/
 
 all_edits = {edit for crate in CRATES.iterdir() for edit in edits_of(crate.name)}
 all_functions = {function for crate in CRATES.iterdir() for function in functions_of(crate.name)}
-faults += [f"docs/PROMISES.md does not name {function}" for function in sorted(all_functions) if f"`{function}`" not in texts["docs/PROMISES.md"]]
+faults += [f"docs/PROMISES.md does not name {function}" for function in sorted(all_functions) if not re.search(rf"`(?:\w+::)?{function}`", texts["docs/PROMISES.md"])]
 seen = set()
 for heading, section in re.findall(r"^## (.*?)\n(.*?)(?=^## |\Z)", texts["docs/PROMISES.md"], re.M | re.S):
     crates = heading.split(", ")

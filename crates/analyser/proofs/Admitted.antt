@@ -1,6 +1,6 @@
 -- What a good method and an admitted reading say: amounts, at most 1,000,000 parts. The code's constants 100.0 and 1000000.0.
-use mathlib.Core.Path.{◌≡◌, refl, ap}
-use mathlib.Core.Bool.{true}
+use mathlib.Core.Path.{◌≡◌, refl, sym, ap, ◌∙◌}
+use mathlib.Core.Bool.{Bool, true, false, not}
 use Prim.Native.Nat.{ℕ, ◌*◌, ◌≤◌}
 use native.Mathlib.Nat.{mul-le-mul_left, le_of_mul-le-mul_right}
 use native.Mathlib.Omega.{arith}
@@ -9,6 +9,10 @@ use lib.Ieee.{Float, binary64, of_bits}
 use lib.Ieee.Positive.{num, den, den_pos}
 use borrow.Author.Tests.{leb-true}
 use Rattle.std.specs.Bool.{passes}
+use Rattle.answer.specs.declared.Refusal.{Refusal}
+use Rattle.answer.specs.Numbers.{bad_reading}
+use Rattle.answer.specs.Outcome.{Outcome, refused, answered, refuse, and_then}
+use Rattle.answer.proofs.Outcomes.{refuse-then, refuse-passed}
 use Rattle.answer.proofs.Tests.{both}
 use Rattle.rounding.specs.Round.{rounded_value, round_div}
 use Rattle.rounding.specs.Fraction.{Fraction, ◌over◌, whole, ◌⊠◌, ◌⊑◌, at_most, rounded}
@@ -51,6 +55,22 @@ module _ (top : Float) (m : Method) (good : good_method (amount top) m ≡ true)
 pub rounded-most : (f : Fraction) → f ⊑ whole 1000000 → (rounded f).value ≤ 1000000
 unfolding rounded round_div rounded_value whole
 rounded-most f h = rounded-mono h
+
+-- A METHOD THAT WAS TESTED: it is good, or what refuses it refuses whatever comes next
+module _ (b : Bool) where
+  abbrev pub unless-good : {A : Type 0} → Outcome A → Outcome A
+  unless-good next = refuse bad_reading 0 (not b) next
+
+  pub passed : ◌≡◌ {A = Outcome (Unit {0})} (answered tt) (unless-good (answered tt)) → b ≡ true
+  passed e = go b (refuse-passed bad_reading 0 (not b) (answered tt) tt (sym e)).0
+    where
+      go : (b : Bool) → not b ≡ false → b ≡ true
+      go true q = refl
+      go false q = sym q
+
+  pub declined : {A : Type 0} (r : Refusal) (next : Outcome A) → ◌≡◌ {A = Outcome (Unit {0})} (refused r) (unless-good (answered tt))
+      → refused r ≡ unless-good next
+  declined r next e = ap (λ (o : Outcome (Unit {0})). and_then o (λ z. next)) e ∙ refuse-then bad_reading 0 (not b) (answered tt) (λ z. next)
 
 -- THE CODE'S CONSTANTS, by their bits
 pub hundred-is : amount (of_bits binary64 0x4059_0000_0000_0000) ≡ whole 100

@@ -17,7 +17,7 @@ use Rattle.rounding.specs.Fraction.{whole, ◌⊠◌, rounded}
 use Rattle.rounding.proofs.Rounding.{none_alike}
 use Rattle.rounding.proofs.Fractions.{Is, is-over, is_whole, is-times, is_same, at-most-values, rounded-is}
 use Rattle.analyser.specs.Reading.{is_amount, amount}
-use Rattle.analyser.specs.Internal.{Scaled}
+use Rattle.analyser.specs.Internal.{Small, AtMostMillion}
 
 -- what the fields f of the exponent and t of the significand say of x: it is q · 2 ^ j units of 2 ^ −1074
 record Read (f t : ℕ) (x : Float) : Type 0 where
@@ -88,19 +88,19 @@ no_nan (inf s) p = tt
 no_nan (fin s m e) p = tt
 
 -- what the code computes from the fields, and its answer
-pub record Shifted (f t factor twos : ℕ) (parts : Rounded) : Type 0 where
+pub record Shifted (f t factor twos : ℕ) (parts : Rounded ℕ) : Type 0 where
   pub under : f + twos < 1043
   pub product : (t + 2 ^ 52) * factor < 2 ^ 63
   pub is : (p k : ℕ) → p ≡ (t + 2 ^ 52) * factor → k ≡ 1075 - f - twos → round_div p (1 * 2 ^ k % 2 ^ 64) ≡ parts
 
-module _ (x : Float) (factor twos : ℕ) (held : T (fits binary64 x)) (pre : Scaled x factor twos) where
+module _ (x : Float) (factor twos : ℕ) (held : T (fits binary64 x)) (scale : Small factor twos) (pre : AtMostMillion x (factor * 2 ^ twos)) where
   abbrev f : ℕ
   f = exponent (to_bits binary64 x)
 
   abbrev t : ℕ
   t = fraction (to_bits binary64 x)
 
-  abbrev parts : Rounded
+  abbrev parts : Rounded ℕ
   parts = rounded (whole (factor * 2 ^ twos) ⊠ amount x)
 
   r : Read f t x
@@ -113,7 +113,7 @@ module _ (x : Float) (factor twos : ℕ) (held : T (fits binary64 x)) (pre : Sca
   e = twos + r.j
 
   n-lt : n < 2 ^ 63
-  n-lt = omega (arith, r.q_lt, mul-le-mul_left r.q (le_of_lt pre.scale.small))
+  n-lt = omega (arith, r.q_lt, mul-le-mul_left r.q (le_of_lt scale.small))
 
   -- the parts, in units
   in-units : Is (whole (factor * 2 ^ twos) ⊠ amount x) (n * 2 ^ e) (2 ^ 1074)
@@ -140,11 +140,11 @@ module _ (x : Float) (factor twos : ℕ) (held : T (fits binary64 x)) (pre : Sca
   -- then the parts are rounded as any a / b below a half that is 0 where the bits are
   pub below_half : f + twos < 1012 → (a b : ℕ) → 2 * a < b → (a ≡ 0 → size ≡ 0) → (0 < a → 0 < size) → round_div a b ≡ parts
   below_half h a b half zero-only positive =
-      let le : 64 + e ≤ 1074 = omega (arith, r.j_is, pre.scale.small_twos) in
+      let le : 64 + e ≤ 1074 = omega (arith, r.j_is, scale.small_twos) in
       let lt : 2 * n * 2 ^ e < 2 ^ 1074 = lt_of_lt_of_le (shl_lt 64 e (omega (arith, n-lt))) (pow_mono le) in
       none_alike a b (n * 2 ^ e) (2 ^ 1074) half (subst (λ (z : ℕ). z < 2 ^ 1074) (mul_assoc 2 n (2 ^ e)) lt)
       (λ z. ap (λ (q : ℕ). q * factor * 2 ^ e) (q-zero (zero-only z)) ∙ none)
-      (λ l. mul-pos (mul-pos (q-positive (positive l)) pre.scale.positive) (pow_pos e))
+      (λ l. mul-pos (mul-pos (q-positive (positive l)) scale.positive) (pow_pos e))
       ∙ sym (rounded-is in-units)
     where
       none : 0 * factor * 2 ^ e ≡ 0
@@ -153,11 +153,11 @@ module _ (x : Float) (factor twos : ℕ) (held : T (fits binary64 x)) (pre : Sca
   -- from there on the leading bit is there
   module _ (big : 1012 ≤ f + twos) where
     lead : r.q ≡ t + 2 ^ 52
-    lead = r.lead (omega (arith, pre.scale.small_twos))
+    lead = r.lead (omega (arith, scale.small_twos))
 
     under : f + twos < 1043
     under =
-        let least : 2 ^ 52 ≤ n = omega (arith, lead, mul-le-mul_left r.q pre.scale.positive) in
+        let least : 2 ^ 52 ≤ n = omega (arith, lead, mul-le-mul_left r.q scale.positive) in
         let most : n * 2 ^ e ≤ 1000000 * 2 ^ 1074 = rw (mul-one (n * 2 ^ e)) at (at-most-values in-units (is_whole 1000000) pre.most) in
         let l : 2 ^ (52 + e) < 2 ^ 1094 = lt_of_le_of_lt (le_trans (le_of_eq (pow-add 2 52 e)) (le_trans (mul-le-mul_right (2 ^ e) least) most)) (lit< tt) in
         let g : 52 + e < 1094 = lt_of_not-le (λ (g : 1094 ≤ 52 + e). lt_irrefl (2 ^ 1094) (lt_of_le_of_lt (pow_mono g) l)) in

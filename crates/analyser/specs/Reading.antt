@@ -6,7 +6,7 @@ use Rattle.std.specs.Float.Ieee.Positive.{num, den}
 use Rattle.answer.specs.Numbers.{bad_reading}
 use Rattle.answer.specs.Outcome.{Outcome, refused, answered, refusal, refuse}
 use Rattle.answer.specs.declared.Rounded.{Rounded}
-use Rattle.answer.specs.Marks.{exact}
+use Rattle.answer.specs.declared.Mark.TheVariants.{Exact}
 use Rattle.rounding.specs.Fraction.{Fraction, ◌over◌, whole, ◌⊠◌, at_most, rounded}
 use Rattle.analyser.specs.declared.Method.{Method}
 use Rattle.analyser.specs.declared.Reading.{Reading}
@@ -37,22 +37,22 @@ unfoldable pub good_method : Fraction → Method → Bool
 good_method top m = up_to m.ceiling top && up_to m.limit (amount m.ceiling)
 
 -- the parts of a reading of x units of `scale` parts: rounded from the exact value; below the limit 0, exactly
-unfoldable pub converted : ℕ → Method → Float → Rounded
-converted scale m x = cond (at_most (amount m.limit) (amount x)) (rounded (whole scale ⊠ amount x)) (record { value = 0; mark = exact })
+unfoldable pub converted : ℕ → Method → Float → Rounded ℕ
+converted scale m x = cond (at_most (amount m.limit) (amount x)) (rounded (whole scale ⊠ amount x)) (record { value = 0; mark = Exact })
 
 -- the answer to such a reading, by a method whose ceiling is at most `top`
-unfoldable pub measured : Fraction → ℕ → Method → Float → Outcome Rounded
+unfoldable pub measured : Fraction → ℕ → Method → Float → Outcome (Rounded ℕ)
 measured top scale m x =
     refuse bad_reading 0 (not (good_method top m))
     (refuse bad_reading 1 (not (up_to x (amount m.ceiling)))
     (answered (converted scale m x)))
 
 -- the answer to an overload: its method is in parts per million, and no overload is admitted
-unfoldable pub overloaded : Method → Outcome Rounded
+unfoldable pub overloaded : Method → Outcome (Rounded ℕ)
 overloaded m = refuse bad_reading 0 (not (good_method (whole 1000000) m)) (refused (refusal bad_reading 1))
 
 -- the answer to any reading: a percent is 10,000 parts per million, and there are 100 of them
-unfoldable pub parts_of : Method → Reading → Outcome Rounded
+unfoldable pub parts_of : Method → Reading → Outcome (Rounded ℕ)
 parts_of m (Percent x) = measured (whole 100) 10000 m x
 parts_of m (Ppm x) = measured (whole 1000000) 1 m x
 parts_of m Overload = overloaded m

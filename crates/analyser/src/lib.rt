@@ -1,105 +1,122 @@
 // Analyser readings: a reading taken to whole parts per million, from the exact value of its float.
 #![tactic(auto)]
 
-ghost use Rattle.std.specs.Prelude.{◌≡◌, ◌*◌, ◌^◌, ◌≤◌, T};
-ghost use Rattle.answer.specs.Outcome.{shown_rounded};
+ghost use Rattle.std.specs.Prelude.{◌≡◌, ◌*◌, ◌^◌, ◌≤◌, not, T, IfOk};
+ghost use Rattle.answer.specs.Numbers.{bad_reading};
+ghost use Rattle.answer.specs.Outcome.{told, answered, refuse};
 ghost use Rattle.rounding.specs.Fraction.{rounded, whole, ◌⊠◌};
-ghost use Rattle.analyser.specs.Reading.{is_amount, amount, up_to, good_method, measured, overloaded, parts_of};
-ghost use Rattle.analyser.specs.Internal.{Scale, Top, Scaled};
+ghost use Rattle.analyser.specs.Reading.{is_amount, amount, up_to, good_method, measured, parts_of};
+ghost use Rattle.analyser.specs.Internal.{Small, Top, AtMostMillion};
 
-use answer::{Rounded, RoundedFigure, answered_rounded, refused_rounded};
+use answer::{Mark, Reason, Refused, Rounded};
 use rounding::round_div;
 
 // An analyser's method: its detection limit and its ceiling, in the reading's unit.
-#[derive(Clone, Copy)]
+#[derive(Clone, Copy, Debug, PartialEq)]
 pub struct Method {
     pub limit: f64,
     pub ceiling: f64,
 }
 
-#[derive(Clone, Copy)]
+#[derive(Clone, Copy, Debug, PartialEq)]
 pub enum Reading {
     Percent(f64),
     Ppm(f64),
     Overload,
 }
 
+// A unit of factor · 2 ^ twos parts, of which `top` make 1,000,000.
+#[derive(Clone, Copy)]
+struct Scale {
+    top: f64,
+    factor: u64,
+    twos: u64,
+    ghost small: { Small factor twos },
+    ghost million: { Top top (factor * 2 ^ twos) },
+}
+
+// A percent is 10,000 = 625 · 2 ^ 4 parts: 53 bits times 625 fit into 64.
+const PERCENT: Scale = Scale {
+    top: 100.0,
+    factor: 625,
+    twos: 4,
+};
+
+const PPM: Scale = Scale {
+    top: 1000000.0,
+    factor: 1,
+    twos: 0,
+};
+
+// The least sum of exponent and twos of half a part.
+const HALF: u64 = 1012;
+
 // Whether 0 ≤ x ≤ high.
 fn is_up_to(x: f64, high: f64) -> bool
     requires { T (is_amount high) }
     ensures { result ≡ up_to x (amount high) }
 {
-    if 0.0 <= x {
-        return x <= high;
-    }
-    false
+    0.0 <= x && x <= high
 }
 
-// Whether 0 ≤ limit ≤ ceiling ≤ top.
-fn is_good(method: Method, top: f64) -> bool
+// Refuses a method unless 0 ≤ limit ≤ ceiling ≤ top.
+fn check_method(method: Method, top: f64) -> Result<(), Refused>
     requires { T (is_amount top) }
-    ensures { result ≡ good_method (amount top) method }
+    ensures { told result ≡ refuse bad_reading 0 (not (good_method (amount top) method)) (answered tt) }
 {
-    if is_up_to(method.ceiling, top) {
-        return is_up_to(method.limit, method.ceiling);
+    if is_up_to(method.ceiling, top) && is_up_to(method.limit, method.ceiling) {
+        return Ok(());
     }
-    false
+    Err(Reason::BadReading.at(0))
 }
 
-// x units of factor · 2 ^ twos parts, rounded. By its bits x is significand · 2 ^ (exponent − 1075), or below 2 ^ −1022 where the exponent is 0.
-fn whole_parts(x: f64, factor: u64, twos: u64) -> Rounded
-    requires { Scaled x factor twos }
-    ensures { result ≡ rounded (whole (factor * 2 ^ twos) ⊠ amount x) }
-{
-    let bits = f64::to_bits(x) % 0x8000_0000_0000_0000;
-    let exponent = bits / 0x10_0000_0000_0000;
-    if exponent + twos < 1012 {
-        // Below half a part. bits / 2 ^ 63 is below a half too, and 0 only where x is, so both are rounded alike.
-        return round_div(bits, 0x8000_0000_0000_0000);
+impl Scale {
+    // x units in parts, rounded. By its bits x is significand · 2 ^ (exponent − 1075), or below 2 ^ −1022 where the exponent is 0.
+    fn whole_parts(self, x: f64) -> Rounded<u64>
+        requires { AtMostMillion x (self.factor * 2 ^ self.twos) }
+        ensures { result ≡ rounded (whole (self.factor * 2 ^ self.twos) ⊠ amount x) }
+    {
+        let bits = f64::to_bits(x) % 0x8000_0000_0000_0000;
+        let exponent = bits / 0x10_0000_0000_0000;
+        if exponent + self.twos < HALF {
+            // Below half a part. bits / 2 ^ 63 is below a half too, and 0 only where x is, so both are rounded alike.
+            return round_div(bits, 0x8000_0000_0000_0000);
+        }
+        let significand = bits % 0x10_0000_0000_0000 + 0x10_0000_0000_0000;
+        let shift = 1075 - exponent - self.twos;
+        round_div(significand * self.factor, 1u64 << shift)
     }
-    let significand = bits % 0x10_0000_0000_0000 + 0x10_0000_0000_0000;
-    let shift = 1075 - exponent - twos;
-    round_div(significand * factor, 1u64 << shift)
+
+    // The answer to a reading of x units: no parts, exactly, below the limit.
+    fn measure(self, method: Method, x: f64) -> Result<Rounded<u64>, Refused>
+        ensures value { told result ≡ measured (amount self.top) (self.factor * 2 ^ self.twos) method x }
+        ensures at_most { IfOk result (λ parts. parts.value ≤ 1000000) }
+    {
+        check_method(method, self.top)?;
+        if !is_up_to(x, method.ceiling) {
+            return Err(Reason::BadReading.at(1));
+        }
+        if method.limit <= x {
+            return Ok(self.whole_parts(x));
+        }
+        Ok(Rounded {
+            value: 0,
+            mark: Mark::Exact,
+        })
+    }
 }
 
-// The answer to a reading of x units of factor · 2 ^ twos parts, of which `top` make 1,000,000: no parts, exactly, below the limit.
-fn measure(method: Method, x: f64, top: f64, factor: u64, twos: u64) -> RoundedFigure
-    requires { Scale factor twos × Top top (factor * 2 ^ twos) }
-    ensures { (result ≡ shown_rounded (measured (amount top) (factor * 2 ^ twos) method x)) × (result.value ≤ 1000000) }
-{
-    if !is_good(method, top) {
-        return refused_rounded(answer::BAD_READING, 0);
-    }
-    if !is_up_to(x, method.ceiling) {
-        return refused_rounded(answer::BAD_READING, 1);
-    }
-    if method.limit <= x {
-        return answered_rounded(whole_parts(x, factor, twos));
-    }
-    answered_rounded(Rounded {
-        value: 0,
-        mark: answer::EXACT,
-    })
-}
-
-// The answer to an overload, whose method is in parts per million.
-fn overload(method: Method) -> RoundedFigure
-    ensures { (result ≡ shown_rounded (overloaded method)) × (result.value ≤ 1000000) }
-{
-    if !is_good(method, 1000000.0) {
-        return refused_rounded(answer::BAD_READING, 0);
-    }
-    refused_rounded(answer::BAD_READING, 1)
-}
-
-// The parts per million of a reading. A percent is 10,000 = 625 · 2 ^ 4 parts: 53 bits times 625 fit into 64. Refusal 14.
-pub fn parts_of(method: Method, reading: Reading) -> RoundedFigure
-    ensures value { result ≡ shown_rounded (parts_of method reading) }
-    ensures at_most { result.value ≤ 1000000 }
+// The parts per million of a reading. An overload's method is in parts per million. Refusal 14.
+pub fn parts_of(method: Method, reading: Reading) -> Result<Rounded<u64>, Refused>
+    ensures value { told result ≡ parts_of method reading }
+    ensures at_most { IfOk result (λ parts. parts.value ≤ 1000000) }
 {
     match reading {
-        Reading::Percent(x) => measure(method, x, 100.0, 625, 4),
-        Reading::Ppm(x) => measure(method, x, 1000000.0, 1, 0),
-        Reading::Overload => overload(method),
+        Reading::Percent(x) => PERCENT.measure(method, x),
+        Reading::Ppm(x) => PPM.measure(method, x),
+        Reading::Overload => {
+            check_method(method, PPM.top)?;
+            Err(Reason::BadReading.at(1))
+        }
     }
 }

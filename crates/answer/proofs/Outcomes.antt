@@ -1,7 +1,7 @@
 -- Laws of outcomes: the number tells a refusal from an answer, and by an answer what the tests before it were.
 use mathlib.Core.Path.{◌≡◌, refl}
 use mathlib.Core.Bool.{Bool, true, false}
-use mathlib.Core.Option.{Option, some, none}
+use Rattle.std.specs.Prelude.{Option, Some, None}
 use Prim.Native.Nat.{ℕ, ◌≤◌, ◌<◌}
 use native.Mathlib.Omega.{arith}
 use Rattle.answer.specs.declared.Refusal.{Refusal}
@@ -15,8 +15,8 @@ module _ {A : Type 0} where
   refuse-numbered n p false o l h = h
 
   pub refuse_at-numbered : (n : ℕ) (f : Option ℕ) (o : Outcome A) → 0 < n → Numbered o → Numbered (refuse_at n f o)
-  refuse_at-numbered n (some p) o l h = l
-  refuse_at-numbered n none o l h = h
+  refuse_at-numbered n (Some p) o l h = l
+  refuse_at-numbered n None o l h = h
 
   pub and_then-numbered : {B : Type 0} (o : Outcome A) (f : A → Outcome B) → Numbered o → ((a : A) → Numbered (f a)) → Numbered (and_then o f)
   and_then-numbered (refused r) f h k = h
@@ -57,6 +57,6 @@ module _ {A : Type 0} (n : ℕ) where
   refuse-passed p true o x e = apart _ x e
   refuse-passed p false o x e = (refl, e)
 
-  pub refuse_at-passed : (f : Option ℕ) (o : Outcome A) (x : A) → refuse_at n f o ≡ answered x → (f ≡ none) × (o ≡ answered x)
-  refuse_at-passed (some p) o x e = apart _ x e
-  refuse_at-passed none o x e = (refl, e)
+  pub refuse_at-passed : (f : Option ℕ) (o : Outcome A) (x : A) → refuse_at n f o ≡ answered x → (f ≡ None) × (o ≡ answered x)
+  refuse_at-passed (Some p) o x e = apart _ x e
+  refuse_at-passed None o x e = (refl, e)

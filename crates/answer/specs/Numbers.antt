@@ -1,5 +1,7 @@
 -- The refusal numbers of document 01's table, each with what it is given for, and its place where that is not 0.
 use Rattle.std.specs.Prelude.{ℕ}
+use Rattle.answer.specs.declared.Reason.{Reason}
+use Rattle.answer.specs.declared.Reason.TheVariants.{NoFormula, CountTooLarge, ElementNotAdmitted, OxygenTooLow, HydrogenDiffers, NoCoefficient, BoilingPointOutside, TotalTooLarge, BlendEmpty, GasTemperatureOutside, BadCurve, TrueAtFirst, FalseAtLast, BadReading, BadSheet, UnknownMethod, NoRoom, DiffusionOutside, BlendOutOfBounds}
 
 -- text is no formula (place: the length of its longest beginning that begins one), or all counts to be written are 0
 abbrev pub no_formula : ℕ
@@ -76,3 +78,25 @@ diffusion_outside = 18
 -- a blend handed in is out of bounds (place 1 if only the second is)
 abbrev pub blend_out_of_bounds : ℕ
 blend_out_of_bounds = 28
+
+-- the number of a reason
+abbrev pub number_of : Reason → ℕ
+number_of NoFormula = no_formula
+number_of CountTooLarge = count_too_large
+number_of ElementNotAdmitted = element_not_admitted
+number_of OxygenTooLow = oxygen_too_low
+number_of HydrogenDiffers = hydrogen_differs
+number_of NoCoefficient = no_coefficient
+number_of BoilingPointOutside = boiling_point_outside
+number_of TotalTooLarge = total_too_large
+number_of BlendEmpty = blend_empty
+number_of GasTemperatureOutside = gas_temperature_outside
+number_of BadCurve = bad_curve
+number_of TrueAtFirst = true_at_first
+number_of FalseAtLast = false_at_last
+number_of BadReading = bad_reading
+number_of BadSheet = bad_sheet
+number_of UnknownMethod = unknown_method
+number_of NoRoom = no_room
+number_of DiffusionOutside = diffusion_outside
+number_of BlendOutOfBounds = blend_out_of_bounds

@@ -1,14 +1,100 @@
-// What a question is answered with: a refusal, by a number of document 01's table and a place, or a figure or a temperature, with a mark where it is rounded;
-// numbers outside a range.
+// What a question is answered with: a value, or why it is refused and at which place, both as C is shown them too; a figure that was rounded, with its mark;
+// numbers outside a range, and the numbers of the methods.
 #![tactic(auto)]
 
-ghost use Rattle.std.specs.Prelude.{◌≡◌, pos};
-ghost use Rattle.answer.specs.Outcome.{refused, answered, refusal, unless, shown_figure, shown_temperature, shown_rounded, shown_rounded_temperature};
+ghost use Rattle.std.specs.Prelude.{◌≡◌, ℤ, pos};
+ghost use Rattle.std.specs.Int.Signed.{lt_z};
+ghost use Rattle.answer.specs.Methods.{method_named};
+ghost use Rattle.answer.specs.Outcome.{refused_at, told, refusal_of, shown_refusal, shown_figure, shown_temperature, shown_rounded, shown_rounded_temperature};
 ghost use Rattle.answer.specs.Outside.{outside};
 
-// A number of the table, and a place.
+use std::fmt;
+
+// Why a question is refused, by the numbers of document 01's table. specs/Numbers.antt says what each is given for.
+#[derive(Clone, Copy, Debug, PartialEq, Eq)]
+pub enum Reason {
+    NoFormula = 1,
+    CountTooLarge = 2,
+    ElementNotAdmitted = 3,
+    OxygenTooLow = 4,
+    HydrogenDiffers = 5,
+    NoCoefficient = 6,
+    BoilingPointOutside = 7,
+    TotalTooLarge = 8,
+    BlendEmpty = 9,
+    GasTemperatureOutside = 10,
+    BadCurve = 11,
+    TrueAtFirst = 12,
+    FalseAtLast = 13,
+    BadReading = 14,
+    BadSheet = 15,
+    UnknownMethod = 16,
+    NoRoom = 17,
+    DiffusionOutside = 18,
+    BlendOutOfBounds = 28,
+}
+
+// A reason and a place: the error of every question.
+#[derive(Clone, Copy, Debug, PartialEq, Eq)]
+pub struct Refused {
+    pub reason: Reason,
+    pub place: u64,
+}
+
+impl Reason {
+    // The refusal for this reason at a place.
+    pub fn at(self, place: u64) -> Refused
+        ensures { result ≡ refused_at self place }
+    {
+        Refused {
+            reason: self,
+            place,
+        }
+    }
+}
+
+// How the size of a rounded figure stands to that of the exact fraction: it is the same, larger or smaller.
+#[derive(Clone, Copy, Debug, PartialEq, Eq)]
+pub enum Mark {
+    Exact = 0,
+    Raised = 1,
+    Lowered = 2,
+}
+
+// A figure that was rounded, and its mark.
+#[derive(Clone, Copy, Debug, PartialEq, Eq)]
+pub struct Rounded<T> {
+    pub value: T,
+    pub mark: Mark,
+}
+
+// The methods of flash and fire points, by the numbers that they are asked for with.
+#[derive(Clone, Copy, Debug, PartialEq, Eq)]
+pub enum PointMethod {
+    ClosedCup = 1,
+    OpenCup = 2,
+    FirePoint = 3,
+}
+
+impl TryFrom<u64> for PointMethod {
+    type Error = Refused;
+
+    ghost try_from_gives = { λ number answer. told answer ≡ method_named number };
+
+    fn try_from(number: u64) -> Result<PointMethod, Refused> {
+        match number {
+            1 => Ok(PointMethod::ClosedCup),
+            2 => Ok(PointMethod::OpenCup),
+            3 => Ok(PointMethod::FirePoint),
+            _ => Err(Reason::UnknownMethod.at(0)),
+        }
+    }
+}
+
+// AS C IS SHOWN ANSWERS. Each value has a struct of its own, since a struct of an exported function has no type parameter: the C interface.
+// A number of the table, and a place; two zeros where there is an answer.
 #[repr(C)]
-#[derive(Clone, Copy)]
+#[derive(Clone, Copy, Debug, PartialEq, Eq)]
 pub struct Refusal {
     pub number: u64,
     pub place: u64,
@@ -16,7 +102,7 @@ pub struct Refusal {
 
 // A figure, or a refusal and 0.
 #[repr(C)]
-#[derive(Clone, Copy)]
+#[derive(Clone, Copy, Debug, PartialEq, Eq)]
 pub struct Figure {
     pub refusal: Refusal,
     pub value: u64,
@@ -24,29 +110,15 @@ pub struct Figure {
 
 // A temperature in hundredths of a degree, or a refusal and 0.
 #[repr(C)]
-#[derive(Clone, Copy)]
+#[derive(Clone, Copy, Debug, PartialEq, Eq)]
 pub struct Temperature {
     pub refusal: Refusal,
     pub value: i64,
 }
 
-// A figure that was rounded, and its mark: how its size stands to that of the exact fraction.
-#[derive(Clone, Copy)]
-pub struct Rounded {
-    pub value: u64,
-    pub mark: u64,
-}
-
-// The same of a figure that may be negative.
-#[derive(Clone, Copy)]
-pub struct RoundedSigned {
-    pub value: i64,
-    pub mark: u64,
-}
-
 // A rounded figure with its mark, or a refusal and zeros.
 #[repr(C)]
-#[derive(Clone, Copy)]
+#[derive(Clone, Copy, Debug, PartialEq, Eq)]
 pub struct RoundedFigure {
     pub refusal: Refusal,
     pub value: u64,
@@ -55,180 +127,143 @@ pub struct RoundedFigure {
 
 // A temperature rounded to hundredths of a degree with its mark, or a refusal and zeros.
 #[repr(C)]
-#[derive(Clone, Copy)]
+#[derive(Clone, Copy, Debug, PartialEq, Eq)]
 pub struct RoundedTemperature {
     pub refusal: Refusal,
     pub value: i64,
     pub mark: u64,
 }
 
-// What an answer has that is not refused.
-pub const NOT_REFUSED: Refusal = Refusal {
-    number: 0,
-    place: 0,
-};
-
-// The table's numbers. specs/Numbers.antt has the same names, with what each is given for.
-pub const NO_FORMULA: u64 = 1;
-
-pub const COUNT_TOO_LARGE: u64 = 2;
-
-pub const ELEMENT_NOT_ADMITTED: u64 = 3;
-
-pub const OXYGEN_TOO_LOW: u64 = 4;
-
-pub const HYDROGEN_DIFFERS: u64 = 5;
-
-pub const NO_COEFFICIENT: u64 = 6;
-
-pub const BOILING_POINT_OUTSIDE: u64 = 7;
-
-pub const TOTAL_TOO_LARGE: u64 = 8;
-
-pub const BLEND_EMPTY: u64 = 9;
-
-pub const GAS_TEMPERATURE_OUTSIDE: u64 = 10;
-
-pub const BAD_CURVE: u64 = 11;
-
-pub const TRUE_AT_FIRST: u64 = 12;
-
-pub const FALSE_AT_LAST: u64 = 13;
-
-pub const BAD_READING: u64 = 14;
-
-pub const BAD_SHEET: u64 = 15;
-
-pub const UNKNOWN_METHOD: u64 = 16;
-
-pub const NO_ROOM: u64 = 17;
-
-pub const DIFFUSION_OUTSIDE: u64 = 18;
-
-pub const BLEND_OUT_OF_BOUNDS: u64 = 28;
-
-// The marks. specs/Marks.antt has the same names.
-pub const EXACT: u64 = 0;
-
-pub const RAISED: u64 = 1;
-
-pub const LOWERED: u64 = 2;
-
-// A figure, answered and refused.
-pub fn answered_figure(value: u64) -> Figure
-    ensures { result ≡ shown_figure (answered value) }
-{
-    Figure {
-        refusal: NOT_REFUSED,
-        value,
+impl fmt::Display for Mark {
+    fn fmt<W: fmt::Write>(&self, f: &mut fmt::Formatter<W>) -> fmt::Result {
+        f.write_str(match self {
+            Mark::Exact => "exact",
+            Mark::Raised => "raised",
+            Mark::Lowered => "lowered",
+        })
     }
 }
 
-pub fn refused_figure(number: u64, place: u64) -> Figure
-    ensures { result ≡ shown_figure (refused (refusal number place)) }
-{
-    Figure {
-        refusal: Refusal { number, place },
-        value: 0,
+impl fmt::Display for Refused {
+    fn fmt<W: fmt::Write>(&self, f: &mut fmt::Formatter<W>) -> fmt::Result {
+        write!(f, "{}", Refusal::from(*self))
     }
 }
 
-// A figure, unless something before it was declined.
-pub fn figure_unless(declined: Refusal, figure: Figure) -> Figure
-    ensures { result ≡ unless declined (shown_figure (refused declined)) figure }
-{
-    if 0 < declined.number {
-        return refused_figure(declined.number, declined.place);
-    }
-    figure
-}
-
-// A temperature, answered and refused.
-pub fn answered_temperature(value: i64) -> Temperature
-    ensures { result ≡ shown_temperature (answered value) }
-{
-    Temperature {
-        refusal: NOT_REFUSED,
-        value,
+impl fmt::Display for Refusal {
+    fn fmt<W: fmt::Write>(&self, f: &mut fmt::Formatter<W>) -> fmt::Result {
+        write!(f, "refusal {}, place {}", self.number, self.place)
     }
 }
 
-pub fn refused_temperature(number: u64, place: u64) -> Temperature
-    ensures { result ≡ shown_temperature (refused (refusal number place)) }
-{
-    Temperature {
-        refusal: Refusal { number, place },
-        value: 0,
+impl From<Refused> for Refusal {
+    ghost from_gives = { λ refused refusal. refusal ≡ shown_refusal refused };
+
+    fn from(refused: Refused) -> Refusal {
+        Refusal {
+            number: refused.reason as u64,
+            place: refused.place,
+        }
     }
 }
 
-// A rounded figure, answered and refused.
-pub fn answered_rounded(figure: Rounded) -> RoundedFigure
-    ensures { result ≡ shown_rounded (answered figure) }
-{
-    RoundedFigure {
-        refusal: NOT_REFUSED,
-        value: figure.value,
-        mark: figure.mark,
+impl Refusal {
+    // The refusal of an answer, two zeros where it has none.
+    pub fn of<T: Copy>(answer: Result<T, Refused>) -> Refusal
+        ensures { result ≡ refusal_of (told answer) }
+    {
+        match answer {
+            Ok(_) => Refusal {
+                number: 0,
+                place: 0,
+            },
+            Err(refused) => refused.into(),
+        }
     }
 }
 
-pub fn refused_rounded(number: u64, place: u64) -> RoundedFigure
-    ensures { result ≡ shown_rounded (refused (refusal number place)) }
-{
-    RoundedFigure {
-        refusal: Refusal { number, place },
-        value: 0,
-        mark: 0,
+impl From<Result<u64, Refused>> for Figure {
+    ghost from_gives = { λ answer figure. figure ≡ shown_figure (told answer) };
+
+    fn from(answer: Result<u64, Refused>) -> Figure {
+        Figure {
+            refusal: Refusal::of(answer),
+            value: answer.unwrap_or(0),
+        }
     }
 }
 
-// A rounded figure, unless something before it was declined.
-pub fn rounded_unless(declined: Refusal, figure: RoundedFigure) -> RoundedFigure
-    ensures { result ≡ unless declined (shown_rounded (refused declined)) figure }
-{
-    if 0 < declined.number {
-        return refused_rounded(declined.number, declined.place);
-    }
-    figure
-}
+impl From<Result<i64, Refused>> for Temperature {
+    ghost from_gives = { λ answer temperature. temperature ≡ shown_temperature (told answer) };
 
-// A rounded temperature, answered and refused.
-pub fn answered_rounded_temperature(temperature: RoundedSigned) -> RoundedTemperature
-    ensures { result ≡ shown_rounded_temperature (answered temperature) }
-{
-    RoundedTemperature {
-        refusal: NOT_REFUSED,
-        value: temperature.value,
-        mark: temperature.mark,
+    fn from(answer: Result<i64, Refused>) -> Temperature {
+        Temperature {
+            refusal: Refusal::of(answer),
+            value: answer.unwrap_or(0),
+        }
     }
 }
 
-pub fn refused_rounded_temperature(number: u64, place: u64) -> RoundedTemperature
-    ensures { result ≡ shown_rounded_temperature (refused (refusal number place)) }
-{
-    RoundedTemperature {
-        refusal: Refusal { number, place },
-        value: 0,
-        mark: 0,
+impl From<Result<Rounded<u64>, Refused>> for RoundedFigure {
+    ghost from_gives = { λ answer figure. figure ≡ shown_rounded (told answer) };
+
+    fn from(answer: Result<Rounded<u64>, Refused>) -> RoundedFigure {
+        let figure = answer.unwrap_or(Rounded {
+            value: 0,
+            mark: Mark::Exact,
+        });
+        RoundedFigure {
+            refusal: Refusal::of(answer),
+            value: figure.value,
+            mark: figure.mark as u64,
+        }
+    }
+}
+
+impl From<Result<Rounded<i64>, Refused>> for RoundedTemperature {
+    ghost from_gives = { λ answer temperature. temperature ≡ shown_rounded_temperature (told answer) };
+
+    fn from(answer: Result<Rounded<i64>, Refused>) -> RoundedTemperature {
+        let temperature = answer.unwrap_or(Rounded {
+            value: 0,
+            mark: Mark::Exact,
+        });
+        RoundedTemperature {
+            refusal: Refusal::of(answer),
+            value: temperature.value,
+            mark: temperature.mark as u64,
+        }
+    }
+}
+
+// A whole number of some width, by its value.
+pub trait Whole: Copy {
+    ghost value: { Self → ℤ };
+
+    fn is_below(self, other: Self) -> bool
+        ensures { result ≡ lt_z (value self) (value other) };
+}
+
+impl Whole for u64 {
+    ghost value = { pos };
+
+    fn is_below(self, other: u64) -> bool {
+        self < other
+    }
+}
+
+impl Whole for i64 {
+    ghost value = { λ n. n };
+
+    fn is_below(self, other: i64) -> bool {
+        self < other
     }
 }
 
 // Whether a number is outside low to high.
-pub fn is_outside(low: u64, high: u64, n: u64) -> bool
-    ensures { result ≡ outside (pos low) (pos high) (pos n) }
+#[tactic(auto, unfolding(crate::specs::Outside::outside))]
+pub fn is_outside<T: Whole>(low: T, high: T, n: T) -> bool
+    ensures { result ≡ outside (T.value low) (T.value high) (T.value n) }
 {
-    if n < low {
-        return true;
-    }
-    high < n
-}
-
-pub fn is_outside_signed(low: i64, high: i64, t: i64) -> bool
-    ensures { result ≡ outside low high t }
-{
-    if t < low {
-        return true;
-    }
-    high < t
+    n.is_below(low) || high.is_below(n)
 }

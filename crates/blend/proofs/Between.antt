@@ -1,19 +1,18 @@
 -- Each figure of an answer lies between those that two of the fuels have alone.
-use mathlib.Core.Path.{◌≡◌, refl, sym, ap, ◌∙◌}
+use mathlib.Core.Path.{◌≡◌, refl, ◌∙◌}
+use mathlib.Core.Bool.{false}
 use mathlib.Core.List.{Memᴰ}
+use native.Mathlib.Omega.{arith}
+use Rattle.std.proofs.lemmas.Bool.Decides.{nat_tests}
 use Prim.Native.Nat.{ℕ, ◌≤◌, ◌<◌}
-use native.Mathlib.Nat.{pos_of_ne-zero}
-use lib.Dec.{eqb}
 use lib.IntN.{nat_abs}
-use borrow.Author.Tests.{eqb-false}
-use Rattle.answer.specs.Numbers.{blend_empty, gas_temperature_outside}
-use Rattle.answer.specs.Outcome.{answered, value_of}
-use Rattle.answer.proofs.Outcomes.{refuse-then, refuse-passed}
+use Rattle.answer.specs.Outcome.{answered}
 use Rattle.rounding.specs.Fraction.{Fraction, whole, ◌⊑◌}
 use Rattle.rounding.proofs.Fractions.{is_whole, times-at-most, rounded-mono}
 use Rattle.blend.specs.Limit.{Side, lower, upper}
 use Rattle.blend.specs.Temperature.{meant, gas_outside}
-use Rattle.blend.specs.Blend.{Question, limits, LimitPair, Told, without_marks}
+use Rattle.blend.specs.declared.LimitPair.{LimitPair}
+use Rattle.blend.specs.Blend.{Question, limits, Told, without_marks}
 use Rattle.blend.specs.Model.{Entry, Entries, sum, total, limit_at, rounded_limit, limit_figure, model_tells, model_asks_marked, model_asks}
 use Rattle.blend.specs.Claims.{alone, AnswersAlone, Between, BetweenAlone}
 use Rattle.blend.proofs.Admitted.{AllAdmitted}
@@ -63,15 +62,16 @@ tells-between : (es : Entries) → AllAdmitted es → 0 < total es → (q : Ques
 unfolding model_tells
 tells-between es known v (limits t) l h =
     let k = nat_abs (meant t) in
-    let passed = refuse-passed gas_temperature_outside 0 (gas_outside (meant t)) _ l (sym (refuse-then gas_temperature_outside 0 (gas_outside (meant t)) _ _) ∙ h) in
-    let same : limit_figures es k ≡ l = ap (value_of (limit_figures es k)) passed.1 in
+    let passed : gas_outside (meant t) ≡ false = grind (arith, nat_tests) in
+    let same : limit_figures es k ≡ l = grind (arith, nat_tests) in
     rw (← same) (
-      shown-between (λ fs. limit_figures fs k) (record { tells = λ fs. rw passed.0; rises = limit-rises lower k }) es known (bracketed lower k es v),
-      shown-between (λ fs. limit_figures fs k) (record { tells = λ fs. rw passed.0; rises = limit-rises upper k }) es known (bracketed upper k es v),
+      shown-between (λ fs. limit_figures fs k) (record { tells = λ fs. rw passed; rises = limit-rises lower k }) es known (bracketed lower k es v),
+      shown-between (λ fs. limit_figures fs k) (record { tells = λ fs. rw passed; rises = limit-rises upper k }) es known (bracketed upper k es v),
     )
 
 pub asks-between : (es : Entries) → AllAdmitted es → (q : Question) (x : Told q) → model_asks es q ≡ answered x → BetweenAlone q es x
 unfolding model_asks_marked
 asks-between es known q x h =
-    let some = refuse-passed blend_empty 0 (eqb (total es) 0) (without_marks q (model_tells es q)) x (sym (refuse-then blend_empty 0 (eqb (total es) 0) _ _) ∙ h) in
-    tells-between es known (pos_of_ne-zero (eqb-false (total es) 0 some.0)) q x some.1
+    let some : 0 < total es = grind (arith, nat_tests) in
+    let told : without_marks q (model_tells es q) ≡ answered x = grind (arith, nat_tests) in
+    tells-between es known some q x told

@@ -34,11 +34,7 @@ module _ (w : Atoms → ℕ) where
   none-weighs : (es : Entries) → total es ≡ 0 → sum weigh es ≡ 0
   unfolding sum
   none-weighs [] h = refl
-  none-weighs (e ∷ es) h =
-      let a : e.parts ≡ 0 = omega arith in
-      let b = ap (λ (n : ℕ). n * w e.fuel) a in
-      let c = none-weighs es (omega arith) in
-      omega arith
+  none-weighs (e ∷ es) h = grind (arith, none-weighs es (omega arith))
 
   module _ (R : ℕ → ℕ → Type 0) (o : Order R) where
     open o use {eq, trans, plus, times, either}

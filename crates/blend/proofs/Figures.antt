@@ -1,17 +1,20 @@
--- A blend's limits as the code has them, one quotient each, at most 100.00 %; and that its products fit.
+-- A blend's limits as the code has them, one quotient each, at most 100.00 %.
 use mathlib.Core.Path.{◌≡◌, sym}
+use mathlib.Core.Bool.{false}
 use Prim.Native.Nat.{ℕ, ◌+◌, ◌*◌, ◌-◌, ◌≤◌, ◌<◌}
-use native.Mathlib.Nat.{mul-le-mul, mul-le-mul_left}
+use native.Mathlib.Nat.{mul-le-mul_left}
 use native.Mathlib.Omega.{arith}
+use lib.IntN.{ℤ, nat_abs}
+use Rattle.answer.proofs.Outside.{inside_is}
 use Rattle.rounding.specs.Round.{rounded_value, round_div}
 use Rattle.rounding.specs.Fraction.{◌over◌, whole, ◌⊠◌, ◌⊘◌, rounded}
 use Rattle.rounding.proofs.Rounding.{round_mono}
 use Rattle.rounding.proofs.Fractions.{is-over, is_whole, is-times, is_same, rounded-is}
 use Rattle.blend.specs.Limit.{Side, lower, upper}
 use Rattle.blend.specs.declared.Blend.{Blend}
-use Rattle.blend.specs.Temperature.{correction}
+use Rattle.blend.specs.Temperature.{gas_outside, correction}
 use Rattle.blend.specs.Blend.{sum_of, unit, held, rounded_blend_limit}
-use Rattle.blend.specs.Internal.{Within, Rated}
+use Rattle.blend.specs.Internal.{Within}
 use Rattle.blend.proofs.LeChatelier.{from-sums-is}
 
 -- V / (sum / 100) times y / d, in hundredths
@@ -51,13 +54,8 @@ module _ (b : Blend) (t : ℕ) (w : Within b) (some : 0 < b.total) (warm : t ≤
       let m = mul-le-mul_left b.total hot in
       rw (← upper-figure b t (omega arith)) (small _ _ (omega arith) (omega arith))
 
--- SIZES
-pub weighed : {v x : ℕ} → v ≤ 1000000 → x ≤ 10000000 → v * x ≤ 1000000 * 10000000
-weighed h k = mul-le-mul h k
+pub ruleset figures = (lower-figure, upper-figure, lower-most, upper-most)
 
-module _ {scale v factor divisor x : ℕ} (r : Rated scale v factor divisor x) where
-  scaled : scale * v ≤ 50000 * 1000000
-  scaled = mul-le-mul r.scale_most r.total_most
-
-  pub rated-products : (scale * v ≤ 50000 * 1000000) × (scale * v * factor ≤ 50000 * 1000000 * 127700) × (divisor * x ≤ 313 * 10000000000000)
-  rated-products = (scaled, mul-le-mul scaled r.factor_most, mul-le-mul r.divisor_most r.sum_most)
+-- an admitted temperature is small
+pub inside_small : (t : ℤ) → gas_outside t ≡ false → nat_abs t ≤ 20000
+inside_small t e = (inside_is 20000 t e).1

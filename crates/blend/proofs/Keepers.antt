@@ -41,11 +41,7 @@ module _ {S T : Type 0} (R : S → T → Type 0) (k : Keeper S) (m : Keeper T) (
 
   put-hold : (xs : ℕ → S) (ys : ℕ → T) → Hold xs ys → (i : ℕ) (x : S) (y : T) → R x y → Hold (put xs i x) (put ys i y)
   unfolding put
-  put-hold xs ys h i x y r j = go (eqb j i)
-    where
-      go : (b : Bool) → R (cond b x (xs j)) (cond b y (ys j))
-      go true = r
-      go false = h j
+  put-hold xs ys h i x y r j = elim (eqb j i) as (λ b. R (cond b x (xs j)) (cond b y (ys j))) [ true ↦ r | false ↦ h j ]
 
   module _ (xs : ℕ → S) (ys : ℕ → T) (h : Hold xs ys) where
     -- one call

@@ -1,13 +1,11 @@
 -- Le Chatelier's limit over entries goes by their total and the sum of their weights alone, and is the limit of the blend that holds those.
-use mathlib.Core.Path.{◌≡◌, refl, sym, ap, ◌∙◌}
-use mathlib.Core.Bool.{Bool, true, false}
+use mathlib.Core.Path.{◌≡◌, refl, sym, ◌∙◌}
 use mathlib.Core.List.{[], ◌∷◌}
 use Prim.Native.Nat.{ℕ, ◌*◌, ◌≤◌, ◌<◌}
-use native.Mathlib.Nat.{le_refl, mul-le-mul_left, mul-pos, pos_of_ne-zero}
+use native.Mathlib.Nat.{le_refl, mul-le-mul_left, mul-pos}
 use native.Mathlib.Omega.{arith}
-use lib.Dec.{eqb}
+use Rattle.std.proofs.lemmas.Bool.Decides.{nat_tests}
 use lib.IntN.{nat_abs}
-use borrow.Author.Tests.{eqb-true, eqb-false, eq-eqb, ne_eqb}
 use Rattle.rounding.specs.Fraction.{Fraction, ◌over◌, whole, ◌⊠◌, ◌⊘◌, rounded}
 use Rattle.rounding.proofs.Fractions.{Is, is-over, is_whole, is-plus, is-times, is-by, is_same, rounded-is}
 use Rattle.blend.specs.Limit.{Side, lower, upper}
@@ -88,19 +86,14 @@ module _ (s : Side) where
 
 -- entries with k times the figures of others answer as those
 module _ (k : ℕ) (es fs : Entries) (x : Times k es fs) where
-  tells-times : 0 < total es → 0 < total fs → (q : Question) → model_tells es q ≡ model_tells fs q
-  unfolding model_tells
-  tells-times h g (limits t) = rw (limit-times lower (nat_abs (meant t)) k es fs x h g, limit-times upper (nat_abs (meant t)) k es fs x h g)
-
   pub asks-times : 0 < k → (q : Question) → model_asks_marked es q ≡ model_asks_marked fs q
-  unfolding model_asks_marked
-  asks-times p q = go (eqb (total fs) 0) refl
-    where
-      go : (b : Bool) → eqb (total fs) 0 ≡ b → model_asks_marked es q ≡ model_asks_marked fs q
-      go true e =
-          let z = ap (λ (n : ℕ). k * n) (eqb-true (total fs) 0 e) in
-          rw (e, eq-eqb (total es) 0 (omega (arith, x.total_times)))
-      go false e =
-          let g : 0 < total fs = pos_of_ne-zero (eqb-false (total fs) 0 e) in
-          let h : 0 < total es = rw x.total_times (mul-pos p g) in
-          rw (e, ne_eqb (total es) 0 (λ (z : total es ≡ 0). omega arith)) (tells-times h g q)
+  unfolding model_asks_marked model_tells
+  asks-times p (limits t) =
+      grind (
+        arith,
+        nat_tests,
+        mul-pos {m = k} {n = total fs},
+        x.total_times,
+        limit-times lower (nat_abs (meant t)) k es fs x,
+        limit-times upper (nat_abs (meant t)) k es fs x,
+      )

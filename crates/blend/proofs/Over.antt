@@ -12,17 +12,17 @@ over f (i ∷ bs) = f i + over f bs
 pub over_none : (f : ℕ → ℕ) → ((i : ℕ) → f i ≡ 0) → (bs : List ℕ) → over f bs ≡ 0
 unfolding over
 over_none f h [] = refl
-over_none f h (i ∷ bs) = let a = h i in let b = over_none f h bs in omega arith
+over_none f h (i ∷ bs) = omega (arith, h i, over_none f h bs)
 
 pub over-one : (f : ℕ → ℕ) {i : ℕ} {bs : List ℕ} → Memᴰ i bs → f i ≤ over f bs
 unfolding over
-over-one f (Memᴰ.head e) = let a = ap f e in omega arith
-over-one f (Memᴰ.tail m) = let a = over-one f m in omega arith
+over-one f (Memᴰ.head e) = grind arith
+over-one f (Memᴰ.tail m) = omega (arith, over-one f m)
 
 pub over-without : (f : ℕ → ℕ) {j : ℕ} {bs rest : List ℕ} → Without j bs rest → over f bs ≡ f j + over f rest
 unfolding over
 over-without f here = refl
-over-without f (there w) = let a = over-without f w in omega arith
+over-without f (there w) = omega (arith, over-without f w)
 
 -- blends that are all different
 apart : {i x : ℕ} {bs : List ℕ} → Memᴰ i bs → Absent x bs → x ≡ i → ⊥

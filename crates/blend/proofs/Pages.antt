@@ -1,16 +1,13 @@
 -- The model's pages, the entries of each blend: what one call leaves of their totals and of the sums over blends.
-use mathlib.Core.Path.{◌≡◌, refl, sym, ap}
-use mathlib.Core.Bool.{Bool, true, false, cond}
-use mathlib.Core.List.{List, [], ◌∷◌, ◌++◌, Memᴰ}
+use mathlib.Core.Path.{◌≡◌, refl, ap}
+use mathlib.Core.List.{List, ◌++◌, Memᴰ}
 use Prim.Native.Nat.{ℕ, ◌+◌, ◌≤◌}
-use lib.Dec.{ltb, eqb}
-use borrow.Author.Tests.{ltb-false, ne_eqb, eq-eqb}
-use Rattle.answer.specs.Numbers.{total_too_large}
-use Rattle.answer.specs.Outcome.{Outcome, refused, answered, refuse, value_of}
-use Rattle.elements.specs.declared.Atoms.{Atoms}
-use Rattle.blend.specs.Fuel.{Fuel, admitting}
+use native.Mathlib.Omega.{arith}
+use Rattle.std.proofs.lemmas.Bool.Decides.{nat_tests}
+use Rattle.answer.specs.Outcome.{value_of}
+use Rattle.blend.specs.Fuel.{Fuel}
 use Rattle.blend.specs.Calls.{Call, add, join, ask, put, next}
-use Rattle.blend.specs.Model.{Entry, entry, Entries, sum, total, model_adds, model_joins, model}
+use Rattle.blend.specs.Model.{Entry, Entries, sum, total, model_adds, model_joins, model}
 use Rattle.blend.specs.Claims.{Different, Beside}
 use Rattle.blend.proofs.Sums.{parts, sum-append, sum_one}
 use Rattle.blend.proofs.Over.{over, over-others, over-more}
@@ -26,19 +23,15 @@ Small pages = (i : ℕ) → total (pages i) ≤ 1000000
 module _ (pages : ℕ → Entries) (i : ℕ) (es : Entries) where
   put-here : put pages i es i ≡ es
   unfolding put
-  put-here = rw (eq-eqb i i refl)
+  put-here = grind (arith, nat_tests)
 
   put-there : (j : ℕ) → (j ≡ i → ⊥) → put pages i es j ≡ pages j
   unfolding put
-  put-there j h = rw (ne_eqb j i h)
+  put-there j h = grind (arith, nat_tests)
 
   put_small : Small pages → total es ≤ 1000000 → Small (put pages i es)
   unfolding put
-  put_small s h j = go (eqb j i)
-    where
-      go : (b : Bool) → total (cond b es (pages j)) ≤ 1000000
-      go true = h
-      go false = s j
+  put_small s h j = grind (arith, nat_tests, s j)
 
 -- ENTRIES APPENDED to those of blend i
 module _ (pages : ℕ → Entries) (i : ℕ) (es : Entries) where
@@ -54,25 +47,13 @@ module _ (pages : ℕ → Entries) (i : ℕ) (es : Entries) where
   small-appended s h = put_small pages i (pages i ++ es) s (rw (sum-append parts (pages i) es) h)
 
 -- ANY CALL
-append-small : (es fs : Entries) (n : ℕ) → n ≡ total fs → total es ≤ 1000000 →
-    total (value_of es (refuse total_too_large 0 (ltb 1000000 (total es + n)) (answered (es ++ fs)))) ≤ 1000000
-append-small es fs n e s = go (ltb 1000000 (total es + n)) refl
-  where
-    go : (b : Bool) → ltb 1000000 (total es + n) ≡ b → total (value_of es (refuse total_too_large 0 b (answered (es ++ fs)))) ≤ 1000000
-    go true h = s
-    go false h = rw (sum-append parts es fs, ← e) (ltb-false 1000000 (total es + n) h)
-
 add_small : (es : Entries) (f : Fuel) (v : ℕ) → total es ≤ 1000000 → total (value_of es (model_adds es f v)) ≤ 1000000
 unfolding model_adds
-add_small es f v s = go (admitting f) refl
-  where
-    go : (o : Outcome Atoms) → admitting f ≡ o → total (value_of es (model_adds es f v)) ≤ 1000000
-    go (refused r) e = rw e s
-    go (answered a) e = rw e (append-small es (entry a v ∷ []) v (sym (sum_one parts (entry a v))) s)
+add_small es f v s = grind (arith, nat_tests, sum-append, sum_one)
 
 join-small : (es fs : Entries) → total es ≤ 1000000 → total (value_of es (model_joins es fs)) ≤ 1000000
 unfolding model_joins
-join-small es fs s = append-small es fs (total fs) refl s
+join-small es fs s = grind (arith, nat_tests, sum-append parts es fs)
 
 module _ (pages : ℕ → Entries) where
   pub next_small : (c : Call) → Small pages → Small (next model pages c)

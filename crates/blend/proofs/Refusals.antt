@@ -1,35 +1,28 @@
 -- When the model refuses an adding or a joining, and what it keeps of one that it does not refuse.
-use mathlib.Core.Path.{◌≡◌, refl, ◌∙◌}
-use mathlib.Core.Bool.{Bool, true, false, not, ◌||◌}
+use mathlib.Core.Path.{◌≡◌, ◌∙◌}
+use mathlib.Core.Bool.{not, ◌||◌}
 use mathlib.Core.List.{[], ◌∷◌, ◌++◌}
 use Prim.Native.Nat.{ℕ, ◌+◌, ◌≤◌}
 use lib.Dec.{ltb}
+use native.Mathlib.Omega.{arith}
+use Rattle.std.proofs.lemmas.Bool.Decides.{nat_tests}
 use borrow.Author.Tests.{le-ltb}
-use Rattle.answer.specs.Numbers.{total_too_large}
-use Rattle.answer.specs.Outcome.{Outcome, refused, answered, refuse}
+use Rattle.answer.specs.Outcome.{answered}
 use Rattle.elements.specs.declared.Atoms.{Atoms}
 use Rattle.blend.specs.Fuel.{Fuel, admitting}
-use Rattle.blend.specs.Calls.{Call, add, join, changed, put, answer_to, next}
+use Rattle.blend.specs.Calls.{Call, add, join, put, answer_to, next}
 use Rattle.blend.specs.Model.{entry, Entries, total, model_adds, model_joins, model}
 use Rattle.blend.specs.Claims.{is_refused, admitted}
 use Rattle.blend.proofs.Sums.{parts, sum_one}
 
-over-million : (b : Bool) (es : Entries) → is_refused (changed (refuse total_too_large 0 b (answered es))) ≡ b
-over-million true es = refl
-over-million false es = refl
-
 module _ (pages : ℕ → Entries) where
   pub add-refused : (i : ℕ) (f : Fuel) (v : ℕ) → is_refused (answer_to model pages (add i f v)) ≡ (not (admitted f) || ltb 1000000 (total (pages i) + v))
   unfolding answer_to model_adds
-  add-refused i f v = go (admitting f) refl
-    where
-      go : (o : Outcome Atoms) → admitting f ≡ o → is_refused (answer_to model pages (add i f v)) ≡ (not (admitted f) || ltb 1000000 (total (pages i) + v))
-      go (refused r) e = rw e
-      go (answered a) e = rw e (over-million (ltb 1000000 (total (pages i) + v)) (pages i ++ (entry a v ∷ [])))
+  add-refused i f v = grind (arith, nat_tests)
 
   pub join-refused : (i j : ℕ) → is_refused (answer_to model pages (join i j)) ≡ ltb 1000000 (total (pages i) + total (pages j))
   unfolding answer_to model_joins
-  join-refused i j = over-million (ltb 1000000 (total (pages i) + total (pages j))) (pages i ++ pages j)
+  join-refused i j = grind (arith, nat_tests)
 
   -- a call that appends entries to those of blend i where the total allows it, and else is refused
   pub record Appends (c : Call) (i : ℕ) (es : Entries) : Type 0 where

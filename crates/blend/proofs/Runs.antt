@@ -1,13 +1,14 @@
 -- The blends follow the model: each holds the sums of its entries, within the bounds, and took in admitted fuels alone.
 use mathlib.Core.Path.{◌≡◌, refl, ap, subst}
-use mathlib.Core.Bool.{Bool, true, false}
+use mathlib.Core.Bool.{true, false}
 use mathlib.Core.List.{List, [], ◌∷◌, ◌++◌}
-use Prim.Native.Nat.{ℕ, ◌+◌, ◌≤◌, ◌<◌}
-use native.Mathlib.Nat.{mul-le-mul_left, pos_of_ne-zero}
+use Prim.Native.Nat.{ℕ, ◌+◌, ◌≤◌}
+use native.Mathlib.Nat.{mul-le-mul_left}
 use native.Mathlib.Omega.{arith}
-use lib.Dec.{ltb, eqb}
+use Rattle.std.proofs.lemmas.Bool.Decides.{nat_tests}
+use lib.Dec.{ltb}
 use lib.IntN.{nat_abs}
-use borrow.Author.Tests.{ltb-false, eqb-false}
+use borrow.Author.Tests.{ltb-false}
 use Rattle.answer.specs.Numbers.{total_too_large}
 use Rattle.answer.specs.Outcome.{Outcome, refused, answered}
 use Rattle.elements.specs.declared.Atoms.{Atoms}
@@ -39,7 +40,7 @@ empty-represents = record { is = refl; fit = omega arith; fuels = none-admitted 
 -- ADDING
 module _ (es : Entries) (w : Within (blend_of es)) (a : Atoms) (known : AdmittedFuel a) (v : ℕ) where
   more-is : with_fuel (blend_of es) (quarters a) v ≡ blend_of (es ++ (entry a v ∷ []))
-  more-is = simp (sum-append, sum_one)
+  more-is = grind (arith, sum-append, sum_one)
 
   more-fits : total es + v ≤ 1000000 → Within (with_fuel (blend_of es) (quarters a) v)
   more-fits m =
@@ -84,17 +85,10 @@ joins-alike b c es fs h k =
     (refuse-alike total_too_large 0 (ltb 1000000 (total es + total fs)) (λ n. answering (both-represent es fs h.fit k.fit fuels n)))
 
 -- ASKING
-tells_alike : (es : Entries) → 0 < total es → (q : Question) → telling (blend_of es) q ≡ model_tells es q
-unfolding telling model_tells
-tells_alike es v (limits t) = rw (blend-limit lower (nat_abs (meant t)) es v, blend-limit upper (nat_abs (meant t)) es v)
-
 marked-alike : (b : Blend) (es : Entries) → Represents b es → (q : Question) → asking_marked b q ≡ model_asks_marked es q
-unfolding asking_marked model_asks_marked
-marked-alike b es h q = go (eqb (total es) 0) refl
-  where
-    go : (z : Bool) → eqb (total es) 0 ≡ z → asking_marked b q ≡ model_asks_marked es q
-    go true e = rw (h.is, within-test (blend_of es) h.fit, e)
-    go false e = rw (h.is, within-test (blend_of es) h.fit, e) (tells_alike es (pos_of_ne-zero (eqb-false (total es) 0 e)) q)
+unfolding asking_marked model_asks_marked telling model_tells
+marked-alike b es h (limits t) =
+    grind (arith, nat_tests, within-test (blend_of es), blend-limit lower (nat_abs (meant t)) es, blend-limit upper (nat_abs (meant t)) es)
 
 asks-alike : (b : Blend) (es : Entries) → Represents b es → (q : Question) → asking b q ≡ model_asks es q
 asks-alike b es h q = ap (without_marks q) (marked-alike b es h q)

@@ -1,8 +1,7 @@
 -- Sums over entries, and the blend that holds them.
-use mathlib.Core.Path.{◌≡◌, refl, sym, ap, ap₂, ◌∙◌}
+use mathlib.Core.Path.{◌≡◌, refl, ◌∙◌}
 use mathlib.Core.List.{[], ◌∷◌, ◌++◌, Permᴰ}
 use Prim.Native.Nat.{ℕ, ◌+◌, ◌*◌}
-use native.Mathlib.Nat.{add_assoc, zero-add}
 use native.Mathlib.Omega.{arith}
 use Rattle.elements.specs.declared.Atoms.{Atoms}
 use Rattle.blend.specs.Limit.{Side, lower, upper}
@@ -15,8 +14,8 @@ use Rattle.blend.specs.Claims.{scaled}
 module _ (f : Entry → ℕ) where
   pub sum-append : (es fs : Entries) → sum f (es ++ fs) ≡ sum f es + sum f fs
   unfolding sum
-  sum-append [] fs = sym (zero-add (sum f fs))
-  sum-append (e ∷ es) fs = ap (λ (n : ℕ). f e + n) (sum-append es fs) ∙ sym (add_assoc (f e) (sum f es) (sum f fs))
+  sum-append [] fs = omega arith
+  sum-append (e ∷ es) fs = omega (arith, sum-append es fs)
 
   pub sum_one : (e : Entry) → sum f (e ∷ []) ≡ f e
   unfolding sum
@@ -26,21 +25,15 @@ module _ (f : Entry → ℕ) where
   pub sum-perm : {es fs : Entries} → Permᴰ es fs → sum f es ≡ sum f fs
   unfolding sum
   sum-perm Permᴰ.nil = refl
-  sum-perm (Permᴰ.cons e d) = ap₂ ◌+◌ (ap f e) (sum-perm d)
-  sum-perm (Permᴰ.swap {a = a} {b = b} {a' = a'} {b' = b'} e₁ e₂) =
-      let h = ap f e₁ in
-      let k = ap f e₂ in
-      omega arith
+  sum-perm (Permᴰ.cons e d) = grind (arith, sum-perm d)
+  sum-perm (Permᴰ.swap e₁ e₂) = grind arith
   sum-perm (Permᴰ.trans d₁ d₂) = sum-perm d₁ ∙ sum-perm d₂
 
   -- all parts times k
   pub sum-scaled : (k : ℕ) → ((e : Entry) → f (entry e.fuel (k * e.parts)) ≡ k * f e) → (es : Entries) → sum f (scaled k es) ≡ k * sum f es
   unfolding sum scaled
   sum-scaled k h [] = omega arith
-  sum-scaled k h (e ∷ es) =
-      let a = h e in
-      let b = sum-scaled k h es in
-      omega arith
+  sum-scaled k h (e ∷ es) = omega (arith, h e, sum-scaled k h es)
 
 -- parts; and parts times aβ + b, in the unit of the sums
 abbrev pub parts : Entry → ℕ

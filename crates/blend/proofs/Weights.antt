@@ -3,7 +3,7 @@ use mathlib.Core.Path.{◌≡◌, refl}
 use mathlib.Core.Bool.{Bool, true, false}
 use Prim.Native.Nat.{ℕ, ◌+◌, ◌*◌, ◌≤◌, ◌<◌}
 use native.Mathlib.Omega.{arith}
-use borrow.Author.Tests.{leb-true, leb-false}
+use Rattle.std.proofs.lemmas.Bool.Decides.{nat_tests}
 use lib.Dec.{leb}
 use Rattle.rounding.specs.Fraction.{◌over◌, ◌⊞◌, ◌⊠◌}
 use Rattle.rounding.proofs.Fractions.{Is, is-over, is_whole, is-plus, is-times, is-by, is_same}
@@ -30,19 +30,9 @@ divisor-is upper q = go (leb q 30) refl
     go true e = rw e (line-is 1550 560 q (775 * q) 1120 2000 (omega arith) (omega arith) (omega arith))
     go false e = rw e (line-is 768 6554 q (384 * q) 13108 2000 (omega arith) (omega arith) (omega arith))
 
--- what holds of a weight on both branches
-by-branch : (P : ℕ → Type 0) (q : ℕ) → (q ≤ 30 → P (775 * q + 1120)) → (30 < q → P (384 * q + 13108)) → P (weight upper q)
-unfolding weight
-by-branch P q l h = go (leb q 30) refl
-  where
-    go : (b : Bool) → leb q 30 ≡ b → P (weight upper q)
-    go true e = rw e (l (leb-true q 30 e))
-    go false e = rw e (h (leb-false q 30 e))
-
 pub weight-positive : (s : Side) (q : ℕ) → 0 < weight s q
 unfolding weight
-weight-positive lower q = omega arith
-weight-positive upper q = by-branch (λ n. 0 < n) q (λ l. omega arith) (λ l. omega arith)
+weight-positive s q = grind (arith, nat_tests)
 
 pub limit_is : (s : Side) (q : ℕ) → Is (limit_of s q) (100 * unit s) (weight s q)
 unfolding limit_of
@@ -51,10 +41,8 @@ limit_is s q = is_same (is-by (is_whole 100) (divisor-is s q) (weight-positive s
 -- the extremes
 pub weight-least : (s : Side) (q : ℕ) → 2 ≤ q → least s ≤ weight s q
 unfolding weight
-weight-least lower q h = omega arith
-weight-least upper q h = by-branch (λ n. least upper ≤ n) q (λ l. omega arith) (λ l. omega arith)
+weight-least s q h = grind (arith, nat_tests)
 
 pub weight-most : (s : Side) (q : ℕ) → q ≤ 1000 → weight s q ≤ greatest s
 unfolding weight
-weight-most lower q h = omega arith
-weight-most upper q h = by-branch (λ n. n ≤ greatest upper) q (λ l. omega arith) (λ l. omega arith)
+weight-most s q h = grind (arith, nat_tests)

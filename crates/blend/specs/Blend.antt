@@ -1,12 +1,13 @@
 -- Blends, document 01's pools: what the functions on one answer.
-use Rattle.std.specs.Prelude.{Bool, not, ◌&&◌, cond, ℕ, ◌+◌, ◌*◌, leb, ltb, eqb, ℤ, nat_abs}
-use Rattle.std.proofs.Math.Option.{Option}
+use Rattle.std.specs.Prelude.{Bool, not, ◌&&◌, cond, ℕ, ◌+◌, ◌*◌, ◌≤◌, leb, ltb, eqb, ℤ, nat_abs, Option}
 use Rattle.answer.specs.Numbers.{total_too_large, blend_empty, gas_temperature_outside, blend_out_of_bounds}
 use Rattle.answer.specs.Outcome.{Outcome, refused, answered, refuse, refusal_of, value_of, and_then, unless, no_figure}
+use Rattle.answer.specs.Marks.{mark_number}
 use Rattle.answer.specs.declared.Rounded.{Rounded}
 use Rattle.rounding.specs.Fraction.{Fraction, ◌over◌, whole, ◌⊠◌, ◌⊘◌, rounded}
 use Rattle.elements.specs.declared.Atoms.{Atoms}
 use Rattle.blend.specs.declared.Blend.{Blend}
+use Rattle.blend.specs.declared.LimitPair.{LimitPair}
 use Rattle.blend.specs.declared.Blended.{Blended}
 use Rattle.blend.specs.declared.Limits.{Limits}
 use Rattle.blend.specs.Limit.{Side, lower, upper}
@@ -85,27 +86,26 @@ pub data Question : Type 0 where
   -- both limits at a temperature in hundredths of a degree, or with none named
   limits : Option ℤ → Question
 
--- both limits, with an A for each
-pub record LimitPair (A : Type 0) : Type 0 where
-  pub lower : A
-  pub upper : A
-
 -- what a question is answered with, with an A for each figure: rounded figures with their marks; and figures alone, which the claim speaks of
 abbrev pub ToldAs : Type 0 → Question → Type 0
 ToldAs A (limits t) = LimitPair A
 
 abbrev pub ToldMarked : Question → Type 0
-ToldMarked q = ToldAs Rounded q
+ToldMarked q = ToldAs (Rounded ℕ) q
 
 abbrev pub Told : Question → Type 0
 Told q = ToldAs ℕ q
 
 -- V / Σ (v / limit) at t, where v / limit is v (aβ + b) / 100; in hundredths of a percent
-unfoldable pub rounded_blend_limit : Side → Blend → ℕ → Rounded
+unfoldable pub rounded_blend_limit : Side → Blend → ℕ → Rounded ℕ
 rounded_blend_limit s b t = rounded (whole 100 ⊠ ((whole b.total ⊘ (held s b ⊘ whole 100)) ⊠ correction s t))
 
-abbrev pub rounded_blend_limits : Blend → ℕ → LimitPair Rounded
+abbrev pub rounded_blend_limits : Blend → ℕ → LimitPair (Rounded ℕ)
 rounded_blend_limits b t = record { lower = rounded_blend_limit lower b t; upper = rounded_blend_limit upper b t }
+
+-- at most 100.00 %
+abbrev pub AtMost100 : LimitPair (Rounded ℕ) → Type 0
+AtMost100 l = (l.lower.value ≤ 10000) × (l.upper.value ≤ 10000)
 
 -- of a blend that is not empty
 unfoldable pub telling : Blend → (q : Question) → Outcome (ToldMarked q)
@@ -128,13 +128,19 @@ abbrev pub asking : Blend → (q : Question) → Outcome (Told q)
 asking b q = without_marks q (asking_marked b q)
 
 -- BOTH LIMITS as they are answered: with a refusal all is 0
-abbrev pub no_limits : LimitPair Rounded
+abbrev pub no_limits : LimitPair (Rounded ℕ)
 no_limits = record { lower = no_figure; upper = no_figure }
 
-abbrev pub shown_limits : Outcome (LimitPair Rounded) → Limits
+abbrev pub shown_limits : Outcome (LimitPair (Rounded ℕ)) → Limits
 shown_limits o =
     let l = value_of no_limits o in
-    record { refusal = refusal_of o; lower = l.lower.value; upper = l.upper.value; lower_mark = l.lower.mark; upper_mark = l.upper.mark }
+    record {
+      refusal = refusal_of o;
+      lower = l.lower.value;
+      upper = l.upper.value;
+      lower_mark = mark_number l.lower.mark;
+      upper_mark = mark_number l.upper.mark;
+    }
 
 -- what such an answer tells but for the marks: its refusal, or its two limits
 abbrev pub limits_told : Limits → Outcome (LimitPair ℕ)

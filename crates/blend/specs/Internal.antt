@@ -1,6 +1,6 @@
--- What the functions below the promises ask and say: sums in their bounds, a limit as one quotient.
+-- What is known of a blend whose sums are in their bounds.
 -- No public promise cites this file.
-use Rattle.std.specs.Prelude.{ℕ, ◌*◌, ◌≤◌}
+use Rattle.std.specs.Prelude.{◌*◌, ◌≤◌}
 use Rattle.blend.specs.declared.Blend.{Blend}
 use Rattle.blend.specs.Limit.{Side, lower, upper}
 use Rattle.blend.specs.Blend.{sum_of, least, greatest}
@@ -14,11 +14,3 @@ pub record Within (b : Blend) : Type 0 where
   pub total_most : b.total ≤ 1000000
   pub lower_in : SumIn lower b
   pub upper_in : SumIn upper b
-
--- small enough for scale · v · factor / (divisor · x)
-pub record Rated (scale v factor divisor x : ℕ) : Type 0 where
-  pub scale_most : scale ≤ 50000
-  pub total_most : v ≤ 1000000
-  pub factor_most : factor ≤ 127700
-  pub divisor_most : divisor ≤ 313
-  pub sum_most : x ≤ 10000000000000

@@ -8,7 +8,8 @@ use Rattle.elements.specs.declared.Atoms.{Atoms}
 use Rattle.blend.specs.Limit.{Side, lower, upper, limit_of}
 use Rattle.blend.specs.Temperature.{meant, gas_outside, correction}
 use Rattle.blend.specs.Fuel.{Fuel, admitting, quarters}
-use Rattle.blend.specs.Blend.{Question, limits, LimitPair, ToldMarked, Told, without_marks}
+use Rattle.blend.specs.declared.LimitPair.{LimitPair}
+use Rattle.blend.specs.Blend.{Question, limits, ToldMarked, Told, without_marks}
 use Rattle.blend.specs.Calls.{Keeper}
 
 -- an entry: a fuel, known by its atom counts, and its parts
@@ -44,10 +45,10 @@ le_chatelier s es = whole (total es) ⊘ shares s es
 unfoldable pub limit_at : Side → Entries → ℕ → Fraction
 limit_at s es t = le_chatelier s es ⊠ correction s t
 
-unfoldable pub rounded_limit : Side → Entries → ℕ → Rounded
+unfoldable pub rounded_limit : Side → Entries → ℕ → Rounded ℕ
 rounded_limit s es t = rounded (whole 100 ⊠ limit_at s es t)
 
-abbrev pub rounded_limits : Entries → ℕ → LimitPair Rounded
+abbrev pub rounded_limits : Entries → ℕ → LimitPair (Rounded ℕ)
 rounded_limits es t = record { lower = rounded_limit lower es t; upper = rounded_limit upper es t }
 
 abbrev pub limit_figure : Side → Entries → ℕ → ℕ

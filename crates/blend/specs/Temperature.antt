@@ -1,6 +1,6 @@
 -- Gas temperatures, and the correction of the limits for them (document 01, "At t °C the lower limit is multiplied by ..").
-use Rattle.std.specs.Prelude.{Bool, ℕ, ◌+◌, ◌*◌, ◌-◌, ℤ, pos, nat_abs}
-use Rattle.std.proofs.Math.Option.{Option, get_or}
+use Rattle.std.specs.Prelude.{Bool, ℕ, ◌+◌, ◌*◌, ◌-◌, ℤ, pos, nat_abs, Option}
+use Rattle.std.specs.Option.{unwrap_or}
 use Rattle.answer.specs.Outside.{outside}
 use Rattle.rounding.specs.Fraction.{Fraction, ◌over◌, whole, ◌≃◌}
 use Rattle.blend.specs.Limit.{Side, lower, upper, fit_temperature}
@@ -10,7 +10,7 @@ abbrev pub usual_temperature : ℤ
 usual_temperature = pos 2000
 
 abbrev pub meant : Option ℤ → ℤ
-meant t = get_or t usual_temperature
+meant t = unwrap_or t usual_temperature
 
 -- outside 0.00 to 200.00
 abbrev pub gas_outside : ℤ → Bool

@@ -1,21 +1,19 @@
 // Blends of fuels (document 01: pools): what Le Chatelier's rule needs of all that one took in.
 #![tactic(auto)]
 
-ghost use Rattle.std.specs.Prelude.{◌≡◌, ◌&&◌, List, ◌*◌, ◌≤◌, ◌<◌, leb};
-ghost use Rattle.std.proofs.Math.Option.{some, none};
-ghost use Rattle.answer.specs.Outcome.{refused, answered, refusal, unless};
-ghost use Rattle.rounding.specs.Round.{round_div};
+ghost use Rattle.std.specs.Prelude.{◌≡◌, true, false, List, ◌≤◌, ◌<◌, IfOk, MatchResult, Some, None};
+ghost use Rattle.answer.specs.Outcome.{refused_at, told};
 ghost use Rattle.elements.specs.Elements.{each, first_above, weighted_sum};
 ghost use Rattle.blend.specs.Limit.{lower, upper};
 ghost use Rattle.blend.specs.Temperature.{OneAtFit};
 ghost use Rattle.blend.specs.Fuel.{counts, text as fuel-text, admitting, molar_mass, masses, InHalves};
-ghost use Rattle.blend.specs.Blend.{empty_blend, weight, within, with_fuel, together, taking, adding, joining, limits as asked-limits, asking_marked, asking, rounded_blend_limits, shown_blend, shown_limits, limits_told};
+ghost use Rattle.blend.specs.Blend.{empty_blend, weight, within, together, taking, adding, joining, limits as asked-limits, rounded_blend_limits, AtMost100, asking_marked, without_marks, asking, shown_blend, shown_limits};
 ghost use Rattle.blend.specs.Calls.{Call};
 ghost use Rattle.blend.specs.Claims.{Claims};
 ghost use Rattle.blend.specs.Marks.{MarksAlike};
-ghost use Rattle.blend.specs.Internal.{Within, Rated};
+ghost use Rattle.blend.specs.Internal.{Within};
 
-use answer::{Refusal, Rounded, is_outside_signed};
+use answer::{Mark, Reason, Refusal, Refused, Rounded, is_outside};
 use elements::{Atoms, weighted_sum};
 use formula::read_formula;
 use oxygen::{Purpose, admit};
@@ -23,24 +21,42 @@ use rounding::{round_div, size};
 
 // Total parts, and the sums of parts times aβ + b: lower in thousandths, upper in two-thousandths.
 #[repr(C)]
-#[derive(Clone, Copy)]
+#[derive(Clone, Copy, Debug, PartialEq, Eq)]
 pub struct Blend {
     pub total: u64,
     pub lower: u64,
     pub upper: u64,
 }
 
-// The blend after an adding or a joining, or a refusal and the blend as given.
+// A value for each of the two limits.
+#[derive(Clone, Copy, Debug, PartialEq, Eq)]
+pub struct LimitPair<A> {
+    pub lower: A,
+    pub upper: A,
+}
+
+// For C: the blend after an adding or a joining, or a refusal and the blend as given.
 #[repr(C)]
-#[derive(Clone, Copy)]
+#[derive(Clone, Copy, Debug, PartialEq, Eq)]
 pub struct Blended {
     pub refusal: Refusal,
     pub blend: Blend,
 }
 
-// Both limits in hundredths of a volume percent with their marks, or a refusal and zeros.
+impl Blended {
+    pub fn of(given: Blend, answer: Result<Blend, Refused>) -> Blended
+        ensures { result ≡ shown_blend given (told answer) }
+    {
+        Blended {
+            refusal: Refusal::of(answer),
+            blend: answer.unwrap_or(given),
+        }
+    }
+}
+
+// For C: both limits in hundredths of a volume percent with their marks, or a refusal and zeros.
 #[repr(C)]
-#[derive(Clone, Copy)]
+#[derive(Clone, Copy, Debug, PartialEq, Eq)]
 pub struct Limits {
     pub refusal: Refusal,
     pub lower: u64,
@@ -49,11 +65,37 @@ pub struct Limits {
     pub upper_mark: u64,
 }
 
+impl From<Result<LimitPair<Rounded<u64>>, Refused>> for Limits {
+    ghost from_gives = { λ answer l. l ≡ shown_limits (told answer) };
+
+    fn from(answer: Result<LimitPair<Rounded<u64>>, Refused>) -> Limits {
+        let none = Rounded {
+            value: 0,
+            mark: Mark::Exact,
+        };
+        let refusal = Refusal::of(answer);
+        let LimitPair { lower, upper } = answer.unwrap_or(LimitPair {
+            lower: none,
+            upper: none,
+        });
+        Limits {
+            refusal,
+            lower: lower.value,
+            upper: upper.value,
+            lower_mark: lower.mark as u64,
+            upper_mark: upper.mark as u64,
+        }
+    }
+}
+
 // 25 °C: the temperature at which the limits' formulas were fitted.
 pub const FIT_TEMPERATURE: i64 = 2500;
 
 // 20 °C: the temperature that is meant where none is named.
 pub const USUAL_TEMPERATURE: i64 = 2000;
+
+// The most parts of a blend.
+const MOST_PARTS: u64 = 1000000;
 
 // The molar masses of C H O N S P F Cl Br Si in halves of g/mol; an element without a mass here is not admitted.
 const MASSES: [u8; 10] = [24, 2, 32, 28, 0, 0, 0, 71, 0, 0];
@@ -61,37 +103,13 @@ const MASSES: [u8; 10] = [24, 2, 32, 28, 0, 0, 0, 71, 0, 0];
 // The molar mass of a fuel in halves of g/mol. A count above 200 is taken as 200, and an element that is not admitted weighs nothing.
 pub fn molar_mass(fuel: Atoms) -> u64
     ensures value { result ≡ weighted_sum masses fuel }
-    ensures as_printed { first_above (each 200) fuel ≡ none → InHalves (molar_mass fuel) result }
+    ensures as_printed { first_above (each 200) fuel ≡ None → InHalves (molar_mass fuel) result }
 {
     weighted_sum(MASSES, fuel)
 }
 
-// Whether a sum of v parts lies between low and high for each.
-fn sum_within(low: u64, high: u64, v: u64, x: u64) -> bool
-    requires { (low ≤ 10000000) × (high ≤ 10000000) × (v ≤ 1000000) }
-    ensures { result ≡ (leb (low * v) x && leb x (high * v)) }
-{
-    if x < low * v {
-        return false;
-    }
-    x <= high * v
-}
-
-// Whether a blend is not out of bounds.
-fn is_within(b: Blend) -> bool
-    ensures { result ≡ within b }
-{
-    let v = b.total;
-    if 1000000 < v {
-        return false;
-    }
-    if !sum_within(9021, 2175679, v, b.lower) {
-        return false;
-    }
-    sum_within(2670, 397108, v, b.upper)
-}
-
-// aβ + b, of β in quarters.
+// aβ + b, of β in quarters, for each limit by its own formula of the paper.
+#[tactic(auto, unfolding(crate::specs::Blend::weight))]
 fn weigh_lower(q: u64) -> u64
     requires { q ≤ 3800 }
     ensures { (result ≡ weight lower q) × (result ≤ 10000000) }
@@ -99,6 +117,7 @@ fn weigh_lower(q: u64) -> u64
     2171 * q + 4679
 }
 
+#[tactic(auto, unfolding(crate::specs::Blend::weight))]
 fn weigh_upper(q: u64) -> u64
     requires { q ≤ 3800 }
     ensures { (result ≡ weight upper q) × (result ≤ 10000000) }
@@ -110,113 +129,74 @@ fn weigh_upper(q: u64) -> u64
     }
 }
 
-fn with_fuel(b: Blend, q: u64, parts: u64) -> Blend
-    requires { Within b × (q ≤ 3800) × (parts ≤ 1000000) }
-    ensures { result ≡ with_fuel b q parts }
-{
-    Blend {
-        total: b.total + parts,
-        lower: b.lower + parts * weigh_lower(q),
-        upper: b.upper + parts * weigh_upper(q),
-    }
+// A blend that is not out of bounds.
+#[derive(Clone, Copy)]
+struct BoundedBlend {
+    blend: Blend,
+    ghost bounded: { Within blend },
 }
 
-fn with_blend(b: Blend, other: Blend) -> Blend
-    requires { Within b × Within other }
-    ensures { result ≡ together b other }
-{
-    Blend {
-        total: b.total + other.total,
-        lower: b.lower + other.lower,
-        upper: b.upper + other.upper,
+impl BoundedBlend {
+    // Refusal 28 with the given place, if the blend is out of bounds.
+    #[tactic(auto, unfolding(crate::specs::Blend::within, crate::specs::Blend::sum_within))]
+    fn of(blend: Blend, place: u64) -> Result<BoundedBlend, Refused>
+        ensures { MatchResult result
+            (λ b. (within blend ≡ true) × (b.blend ≡ blend))
+            (λ e. (within blend ≡ false) × (e ≡ refused_at Reason.BlendOutOfBounds place)) }
+    {
+        let v = blend.total;
+        if v <= MOST_PARTS
+            && (9021 * v..=2175679 * v).contains(&blend.lower)
+            && (2670 * v..=397108 * v).contains(&blend.upper)
+        {
+            return Ok(BoundedBlend { blend });
+        }
+        Err(Reason::BlendOutOfBounds.at(place))
     }
-}
 
-fn changed(blend: Blend) -> Blended
-    ensures { (b : Blend) → result ≡ shown_blend b (answered blend) }
-{
-    Blended {
-        refusal: answer::NOT_REFUSED,
-        blend,
+    // The blend with the sums of more.
+    fn plus(self, more: Blend) -> Blend
+        requires { (more.total ≤ 1000000) × (more.lower ≤ 10000000000000) × (more.upper ≤ 10000000000000) }
+        ensures { result ≡ together self.blend more }
+    {
+        let b = self.blend;
+        Blend {
+            total: b.total + more.total,
+            lower: b.lower + more.lower,
+            upper: b.upper + more.upper,
+        }
     }
-}
 
-fn unchanged(blend: Blend, number: u64, place: u64) -> Blended
-    ensures { result ≡ shown_blend blend (refused (refusal number place)) }
-{
-    Blended {
-        refusal: Refusal { number, place },
-        blend,
+    // The blend with parts of a fuel more. Refusals 2, 3, 4, 8.
+    #[tactic(auto, using(crate::proofs::Admitted::quarters_of), unfolding(crate::specs::Blend::taking, crate::specs::Fuel::admitting))]
+    fn take(self, fuel: Atoms, parts: u64) -> Result<Blend, Refused>
+        ensures { told result ≡ taking self.blend (admitting (counts fuel)) parts }
+    {
+        let beta = admit(Purpose::GasLimits, fuel)?;
+        if MOST_PARTS - self.blend.total < parts {
+            return Err(Reason::TotalTooLarge.at(0));
+        }
+        let more = Blend {
+            total: parts,
+            lower: parts * weigh_lower(beta),
+            upper: parts * weigh_upper(beta),
+        };
+        Ok(self.plus(more))
     }
-}
 
-// The blend with parts of a fuel more, of a blend that is not out of bounds. Refusals 2, 3, 4, 8.
-fn take(b: Blend, fuel: Atoms, parts: u64) -> Blended
-    requires { Within b }
-    ensures { result ≡ shown_blend b (taking b (admitting (counts fuel)) parts) }
-{
-    let beta = admit(Purpose::GasLimits, fuel);
-    let not_admitted = beta.refusal;
-    if 0 < not_admitted.number {
-        return unchanged(b, not_admitted.number, not_admitted.place);
+    // Both limits at an admitted temperature, of a blend that is not empty: each V / Σ (v / limit) times its correction as one quotient.
+    #[tactic(auto, using(crate::proofs::Figures::figures))]
+    fn limits(self, t: u64) -> LimitPair<Rounded<u64>>
+        requires { (0 < self.blend.total) × (t ≤ 20000) }
+        ensures value { result ≡ rounded_blend_limits self.blend t }
+        ensures at_most { AtMost100 result }
+    {
+        let b = self.blend;
+        LimitPair {
+            lower: round_div(25000 * b.total * (127700 - t), 313 * b.lower),
+            upper: round_div(50000 * b.total * (t + 78700), 203 * b.upper),
+        }
     }
-    if 1000000 - b.total < parts {
-        return unchanged(b, answer::TOTAL_TOO_LARGE, 0);
-    }
-    changed(with_fuel(b, beta.value, parts))
-}
-
-// Limits, answered and refused.
-pub fn answered_limits(lower: Rounded, upper: Rounded) -> Limits
-    ensures { result ≡ shown_limits (answered (record { lower = lower; upper = upper })) }
-{
-    Limits {
-        refusal: answer::NOT_REFUSED,
-        lower: lower.value,
-        upper: upper.value,
-        lower_mark: lower.mark,
-        upper_mark: upper.mark,
-    }
-}
-
-pub fn no_limits(number: u64, place: u64) -> Limits
-    ensures { result ≡ shown_limits (refused (refusal number place)) }
-{
-    Limits {
-        refusal: Refusal { number, place },
-        lower: 0,
-        upper: 0,
-        lower_mark: 0,
-        upper_mark: 0,
-    }
-}
-
-// Limits, unless something before them was declined.
-pub fn limits_unless(declined: Refusal, limits: Limits) -> Limits
-    ensures { result ≡ unless declined (shown_limits (refused declined)) limits }
-{
-    if 0 < declined.number {
-        return no_limits(declined.number, declined.place);
-    }
-    limits
-}
-
-// scale · v · factor / (divisor · x), rounded.
-fn rated(scale: u64, v: u64, factor: u64, divisor: u64, x: u64) -> Rounded
-    requires { Rated scale v factor divisor x }
-    ensures { result ≡ round_div (scale * v * factor) (divisor * x) }
-{
-    round_div(scale * v * factor, divisor * x)
-}
-
-// Both limits at an admitted temperature, of a blend that is not empty.
-fn limits_from(b: Blend, t: u64) -> Limits
-    requires { Within b × (0 < b.total) × (t ≤ 20000) }
-    ensures { result ≡ shown_limits (answered (rounded_blend_limits b t)) }
-{
-    let lower = rated(25000, b.total, 127700 - t, 313, b.lower);
-    let upper = rated(50000, b.total, t + 78700, 203, b.upper);
-    answered_limits(lower, upper)
 }
 
 // An empty blend. Of blends that begin empty, and of every list of calls on them, the claims of specs/Claims.antt hold, and of their marks specs/Marks.antt.
@@ -233,71 +213,61 @@ pub fn empty_blend() -> Blend
 }
 
 // The blend with parts of a fuel more, given by its atom counts. Refusals 28, 2, 3, 4, 8.
-pub fn add_fuel(b: Blend, fuel: Atoms, parts: u64) -> Blended
-    ensures { result ≡ shown_blend b (adding b (counts fuel) parts) }
+#[tactic(auto, unfolding(crate::specs::Blend::adding))]
+pub fn add_fuel(b: Blend, fuel: Atoms, parts: u64) -> Result<Blend, Refused>
+    ensures { told result ≡ adding b (counts fuel) parts }
 {
-    if !is_within(b) {
-        return unchanged(b, answer::BLEND_OUT_OF_BOUNDS, 0);
-    }
-    take(b, fuel, parts)
+    BoundedBlend::of(b, 0)?.take(fuel, parts)
 }
 
 // The same of a fuel given by its formula text. Refusals 28, then the reader's 1 and 2, then 3, 4, 8.
-pub fn add_fuel_text(b: Blend, text: &[u8], parts: u64) -> Blended
-    ensures { result ≡ shown_blend b (adding b (fuel-text text.now) parts) }
+#[tactic(auto, unfolding(crate::specs::Blend::adding, crate::specs::Blend::taking, crate::specs::Fuel::admitting))]
+pub fn add_fuel_text(b: Blend, text: &[u8], parts: u64) -> Result<Blend, Refused>
+    ensures { told result ≡ adding b (fuel-text text.now) parts }
 {
-    if !is_within(b) {
-        return unchanged(b, answer::BLEND_OUT_OF_BOUNDS, 0);
-    }
-    let read = read_formula(text);
-    let unread = read.refusal;
-    if 0 < unread.number {
-        return unchanged(b, unread.number, unread.place);
-    }
-    let fuel = read.atoms;
-    take(b, fuel, parts)
+    let bounded = BoundedBlend::of(b, 0)?;
+    let fuel = read_formula(text)?;
+    bounded.take(fuel, parts)
 }
 
 // The first blend with all of the second. Refusals 28 with place 0, or 1 if only the second is out of bounds; 8.
-pub fn join_blends(b: Blend, other: Blend) -> Blended
-    ensures { result ≡ shown_blend b (joining b other) }
+#[tactic(auto, unfolding(crate::specs::Blend::joining))]
+pub fn join_blends(b: Blend, other: Blend) -> Result<Blend, Refused>
+    ensures { told result ≡ joining b other }
 {
-    if !is_within(b) {
-        return unchanged(b, answer::BLEND_OUT_OF_BOUNDS, 0);
+    let first = BoundedBlend::of(b, 0)?;
+    let second = BoundedBlend::of(other, 1)?;
+    if MOST_PARTS - b.total < other.total {
+        return Err(Reason::TotalTooLarge.at(0));
     }
-    if !is_within(other) {
-        return unchanged(b, answer::BLEND_OUT_OF_BOUNDS, 1);
-    }
-    if 1000000 - b.total < other.total {
-        return unchanged(b, answer::TOTAL_TOO_LARGE, 0);
-    }
-    changed(with_blend(b, other))
+    Ok(first.plus(second.blend))
 }
 
-// Both limits at a temperature in hundredths of a degree, at most 100.00 %; at that of the fit no correction is applied. Refusals 28, 9, 10.
-pub fn blend_limits_at(b: Blend, temperature: i64) -> Limits
-    ensures value { result ≡ shown_limits (asking_marked b (asked-limits (some temperature))) }
-    ensures at_most { (result.lower ≤ 10000) × (result.upper ≤ 10000) }
+// Both limits in hundredths of a volume percent at a temperature in hundredths of a degree, at most 100.00 %; at that of the fit no correction is applied.
+// Refusals 28, 9, 10.
+#[tactic(auto, using(crate::proofs::Figures::inside_small), unfolding(crate::specs::Blend::asking_marked, crate::specs::Blend::telling))]
+pub fn blend_limits_at(b: Blend, temperature: i64) -> Result<LimitPair<Rounded<u64>>, Refused>
+    ensures value { told result ≡ asking_marked b (asked-limits (Some temperature)) }
+    ensures at_most { IfOk result AtMost100 }
     ensures at_fit { OneAtFit }
-    ensures in_claim { limits_told result ≡ asking b (asked-limits (some temperature)) }
+    ensures in_claim { without_marks (asked-limits (Some temperature)) (told result) ≡ asking b (asked-limits (Some temperature)) }
 {
-    if !is_within(b) {
-        return no_limits(answer::BLEND_OUT_OF_BOUNDS, 0);
-    }
+    let bounded = BoundedBlend::of(b, 0)?;
     if b.total == 0 {
-        return no_limits(answer::BLEND_EMPTY, 0);
+        return Err(Reason::BlendEmpty.at(0));
     }
-    if is_outside_signed(0, 20000, temperature) {
-        return no_limits(answer::GAS_TEMPERATURE_OUTSIDE, 0);
+    if is_outside(0, 20000, temperature) {
+        return Err(Reason::GasTemperatureOutside.at(0));
     }
-    limits_from(b, size(temperature))
+    Ok(bounded.limits(size(temperature)))
 }
 
-// Both limits with no temperature named, at most 100.00 %. Refusals 28, 9.
-pub fn blend_limits(b: Blend) -> Limits
-    ensures value { result ≡ shown_limits (asking_marked b (asked-limits none)) }
-    ensures at_most { (result.lower ≤ 10000) × (result.upper ≤ 10000) }
-    ensures in_claim { limits_told result ≡ asking b (asked-limits none) }
+// The same with no temperature named, at most 100.00 %. Refusals 28, 9.
+#[tactic(auto, unfolding(crate::specs::Blend::asking_marked, crate::specs::Blend::telling))]
+pub fn blend_limits(b: Blend) -> Result<LimitPair<Rounded<u64>>, Refused>
+    ensures value { told result ≡ asking_marked b (asked-limits None) }
+    ensures at_most { IfOk result AtMost100 }
+    ensures in_claim { without_marks (asked-limits None) (told result) ≡ asking b (asked-limits None) }
 {
     blend_limits_at(b, USUAL_TEMPERATURE)
 }

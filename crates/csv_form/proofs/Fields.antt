@@ -3,28 +3,23 @@ use mathlib.Core.Path.{◌≡◌, refl, sym, ap, ◌∙◌}
 use mathlib.Core.Bool.{Bool, true, false, cond}
 use mathlib.Core.List.{List, [], ◌∷◌}
 use Prim.Native.Nat.{ℕ, zero, suc, ◌+◌, ◌-◌, ◌≤◌, ◌<◌}
-use native.Mathlib.Nat.{add-zero}
 use native.Mathlib.Numerals.{add-one}
 use native.Mathlib.Omega.{arith}
-use borrow.Author.Tests.{ne_eqb}
 use lib.Dec.{eqb}
-use lib.ListN.{length, get_or, take, drop, drop_of_length-le, length-drop}
-use lib.Seq.{get_or-drop, drop-cons, drop-drop}
-use Rattle.answer.proofs.Tests.{both}
+use lib.ListN.{length, get_or, take, drop, length-drop}
+use lib.Seq.{drop-drop}
+use Rattle.std.specs.List.{count_by, position_from}
+use Rattle.std.proofs.lemmas.List.Recursion.{is_count_by}
 use Rattle.text.specs.Bytes.{byte}
 use Rattle.csv_form.specs.declared.Span.{Span}
-use Rattle.csv_form.specs.Lines.{comma, push, before, field, fields, field_at, all}
+use Rattle.csv_form.specs.Lines.{comma, push, before, first_from, field, fields, field_at}
 use Rattle.csv_form.proofs.Spans.{sized, span-bytes, span-next}
 
--- a comma at i
-module _ (l : List ℕ) (i : ℕ) where
-  pub comma-yes : get_or l i 0 ≡ byte "," → comma (drop i l) ≡ true
-  unfolding comma
-  comma-yes e = simp (get_or-drop, add-zero, e)
-
-  pub comma-no : (get_or l i 0 ≡ byte "," → ⊥) → comma (drop i l) ≡ false
-  unfolding comma
-  comma-no n = simp (get_or-drop, add-zero, ne_eqb _ _ n)
+-- the first comma, by each byte
+pub comma-bytes : (n : ℕ) (l : List ℕ) → first_from comma n l ≡ position_from (λ b. eqb b (byte ",")) n l
+unfolding first_from comma
+comma-bytes n [] = refl
+comma-bytes n (a ∷ l) = rw (comma-bytes (suc n) l, add-one n)
 
 -- the fields behind the first, by what is left behind it: nothing, or a comma and more
 abbrev later : List ℕ → List (List ℕ)
@@ -63,40 +58,23 @@ module _ (l : List ℕ) (at : ℕ) (h : at ≤ length l) (r : Span) (e : r ≡ f
   pub field-later : (k : ℕ) → get_or (fields (drop at l)) (suc k) [] ≡ get_or (fields (drop r.next l)) k []
   field-later k = rw next-is (ap (λ (fs : List (List ℕ)). get_or fs (suc k) []) (fields-step (drop at l)) ∙ later-at (left (drop at l)) k)
 
--- how many, while a loop passes the bytes: one more for each comma
+-- one more than there are commas
 push-length : (a : ℕ) (fs : List (List ℕ)) → 0 < length fs → length (push a fs) ≡ length fs
 push-length a [] h = absurd (omega arith)
 push-length a (f ∷ fs) h = refl
 
-pub count-more : (l : List ℕ) (i : ℕ) → i < length l → length (fields (drop i l)) ≡ cond (eqb (get_or l i 0) (byte ",")) 1 0 + length (fields (drop (i + 1) l))
+abbrev commas : List ℕ → ℕ
+commas [] = 0
+commas (a ∷ l) = cond (eqb a (byte ",")) (1 + commas l) (commas l)
+
+fields-commas : (l : List ℕ) → length (fields l) ≡ commas l + 1
 unfolding fields comma
-count-more l i h = rw (drop-cons l i 0 h, add-one i) (go (eqb (get_or l i 0) (byte ",")) refl)
+fields-commas [] = refl
+fields-commas (a ∷ l) = go (eqb a (byte ",")) (fields-commas l)
   where
-    rest : List (List ℕ)
-    rest = fields (drop (suc i) l)
+    go : (b : Bool) → length (fields l) ≡ commas l + 1 → length (cond b ([] ∷ fields l) (push a (fields l))) ≡ cond b (1 + commas l) (commas l) + 1
+    go true h = omega arith
+    go false h = push-length a (fields l) (omega arith) ∙ h
 
-    go : (b : Bool) → eqb (get_or l i 0) (byte ",") ≡ b → length (cond b ([] ∷ rest) (push (get_or l i 0) rest)) ≡ cond b 1 0 + length rest
-    go true e = omega arith
-    go false e = push-length (get_or l i 0) rest (rw (fields-step (drop (suc i) l)) (omega arith)) ∙ omega arith
-
-pub count-end : (l : List ℕ) (i : ℕ) → length l ≤ i → length (fields (drop i l)) ≡ 1
-unfolding fields
-count-end l i h = rw (drop_of_length-le l h)
-
--- a test on each byte, while a loop passes them
-module _ (test : ℕ → Bool) (s : List ℕ) (i : ℕ) where
-  pub all-stop : i < length s → test (get_or s i 0) ≡ false → all test (drop i s) ≡ false
-  unfolding all
-  all-stop h e = rw (drop-cons s i 0 h, e)
-
-  pub all_more : i < length s → test (get_or s i 0) ≡ true → all test (drop i s) ≡ all test (drop (i + 1) s)
-  unfolding all
-  all_more h e = rw (drop-cons s i 0 h, e, add-one i)
-
-  pub all_end : length s ≤ i → all test (drop i s) ≡ true
-  unfolding all
-  all_end h = rw (drop_of_length-le s h)
-
-  pub all_here : i < length s → all test (drop i s) ≡ true → (test (get_or s i 0) ≡ true) × (all test (drop (i + 1) s) ≡ true)
-  unfolding all
-  all_here h e = rw (add-one i) (both (test (get_or s i 0)) (all test (drop (suc i) s)) (rw (drop-cons s i 0 h) at e))
+pub fields-count : (l : List ℕ) → length (fields l) ≡ count_by (λ b. eqb b (byte ",")) l + 1
+fields-count l = rw (fields-commas l, is_count_by commas (λ b. eqb b (byte ",")) refl (λ _ _. refl) l)

@@ -1,4 +1,4 @@
 pub mod Spans
-pub mod Lines
+pub mod LineLaws
 pub mod Fields
 pub mod Sheets

@@ -1,15 +1,15 @@
--- Laws of the bytes before the first place that passes a test, which the first line and the first field are: a loop that passes them, and their span.
-use mathlib.Core.Path.{◌≡◌, refl, ap, ap₂, ◌∙◌}
-use mathlib.Core.Bool.{Bool, true, false}
+-- Laws of the bytes before the first place that passes a test, which the first line and the first field are, and of their span.
+use mathlib.Core.Path.{◌≡◌, refl, sym, ap₂}
+use mathlib.Core.Bool.{Bool, true, false, cond}
 use mathlib.Core.List.{List, [], ◌∷◌}
-use Prim.Native.Nat.{ℕ, ◌+◌, ◌-◌, ◌≤◌, ◌<◌, min}
-use native.Mathlib.Numerals.{add-one}
+use Prim.Native.Nat.{ℕ, suc, ◌+◌, ◌-◌, ◌≤◌, ◌<◌, min}
 use native.Mathlib.Decide.{dec_le}
 use native.Mathlib.Omega.{arith}
 use lib.ListN.{length, take, drop, drop_of_length-le, length-drop}
-use lib.Seq.{drop-cons, drop-drop, drop-length}
+use lib.Seq.{drop-drop, drop-length}
+use Rattle.std.specs.Prelude.{Option, Some, None, MatchOption}
 use Rattle.csv_form.specs.declared.Span.{Span}
-use Rattle.csv_form.specs.Lines.{before, span_at}
+use Rattle.csv_form.specs.Lines.{before, first_from, first, span_at}
 
 abbrev span : ℕ → ℕ → Span
 span end next = record { end = end; next = next }
@@ -32,6 +32,18 @@ module _ (test : List ℕ → Bool) where
   unfolding before
   before-no a s e = rw e
 
+  -- the first place is behind them
+  first-place : (n : ℕ) (s : List ℕ) → MatchOption (first_from test n s) (length (before test s) ≡ length s) (λ m. n + length (before test s) ≡ m)
+  unfolding first_from before
+  first-place n [] = refl
+  first-place n (a ∷ s) = go (test (a ∷ s)) (first_from test (suc n) s) (first-place (suc n) s)
+    where
+      go : (b : Bool) (r : Option ℕ) → MatchOption r (length (before test s) ≡ length s) (λ m. suc n + length (before test s) ≡ m)
+          → MatchOption (cond b (Some n) r) (length (cond b [] (a ∷ before test s)) ≡ suc (length s)) (λ m. n + length (cond b [] (a ∷ before test s)) ≡ m)
+      go true r h = omega arith
+      go false None h = omega arith
+      go false (Some m) h = omega arith
+
   -- they are the text's first bytes
   pub before-take : (s : List ℕ) → (take (length (before test s)) s ≡ before test s) × (length (before test s) ≤ length s)
   unfolding before
@@ -43,28 +55,23 @@ module _ (test : List ℕ → Bool) where
       go true e h = rw e (refl, omega arith)
       go false e h = rw (e, h.0) (refl, omega (arith, h.1))
 
+  -- the span by the first place
+  module _ (s : List ℕ) (at gap : ℕ) where
+    pub span-some : 0 < gap → (n : ℕ) → Some n ≡ first test (drop at s) → n + gap ≤ length (drop at s) → span (at + n) (at + n + gap) ≡ span_at test gap s at
+    unfolding span_at
+    span-some z n e l =
+        let k : 0 + length (before test (drop at s)) ≡ n = rw (sym e) at (first-place 0 (drop at s)) in
+        ap₂ span (omega (arith, length-drop at s)) (omega (arith, length-drop at s))
+
+    pub span-none : None ≡ first test (drop at s) → span (length s) (length s) ≡ span_at test gap s at
+    unfolding span_at
+    span-none e =
+        let k : length (before test (drop at s)) ≡ length (drop at s) = rw (sym e) at (first-place 0 (drop at s)) in
+        ap₂ span (omega (arith, length-drop at s)) (omega (arith, length-drop at s))
+
   module _ (s : List ℕ) (at : ℕ) where
     abbrev bytes : ℕ → List ℕ
     bytes i = before test (drop i s)
-
-    -- A LOOP that began at `at` and has come to `end`
-    abbrev pub Reached : ℕ → Type 0
-    Reached end = at + length (bytes at) ≡ end + length (bytes end)
-
-    module _ (end : ℕ) (h : Reached end) where
-      pub reached-more : end < length s → test (drop end s) ≡ false → Reached (end + 1)
-      reached-more l e =
-          let d = drop-cons s end 0 l in
-          let k : length (bytes end) ≡ length (bytes (end + 1)) + 1 = ap (λ (t : List ℕ). length (before test t)) d ∙ ap length (before-no _ _ (rw d at e)) ∙ rw (add-one end, add-one) in
-          omega arith
-
-      pub reached-stop : (gap next : ℕ) → test (drop end s) ≡ true → next ≡ end + gap → next ≤ length s → span end next ≡ span_at test gap s at
-      unfolding span_at
-      reached-stop gap next e k l = let z = ap length (before-yes (drop end s) e) in ap₂ span (omega arith) (omega arith)
-
-      pub reached-end : (gap : ℕ) → length s ≤ end → span (length s) (length s) ≡ span_at test gap s at
-      unfolding span_at before
-      reached-end gap l = let k : length (bytes end) ≡ 0 = rw (drop_of_length-le s l) in ap₂ span (omega arith) (omega arith)
 
     -- THE SPAN of those that begin within the text
     module _ (gap : ℕ) (l : at ≤ length s) (r : Span) (e : r ≡ span_at test gap s at) where

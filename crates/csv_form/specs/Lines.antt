@@ -1,7 +1,9 @@
 -- The lines of RFC 4180 text, and the fields of a line. No field is quoted: a sheet with a quote mark is bad.
-use Rattle.std.specs.Prelude.{Bool, true, cond, not, ◌&&◌, List, [], ◌∷◌, ℕ, ◌+◌, min, eqb, length, get_or, drop}
+use Rattle.std.specs.Prelude.{Bool, cond, not, ◌&&◌, Option, Some, None, List, [], ◌∷◌, ℕ, suc, ◌+◌, min, eqb, length, get_or, drop}
+use Rattle.std.specs.List.{list_all}
 use Rattle.text.specs.Bytes.{byte}
 use Rattle.csv_form.specs.declared.Span.{Span}
+use Rattle.csv_form.specs.declared.Lines.{Lines}
 
 -- a text begins with CRLF, and with a comma
 unfoldable pub crlf : List ℕ → Bool
@@ -21,6 +23,10 @@ lines [] = []
 lines (a ∷ []) = (a ∷ []) ∷ []
 lines (a ∷ b ∷ s) = cond (crlf (a ∷ b ∷ s)) ([] ∷ lines s) (push a (lines (b ∷ s)))
 
+-- the lines that an iterator has left
+abbrev pub left : Lines → List (List ℕ)
+left s = lines s.rest.now
+
 -- the fields of a line, between its commas: one more than there are commas
 unfoldable pub fields : List ℕ → List (List ℕ)
 fields [] = [] ∷ []
@@ -30,6 +36,14 @@ fields (a ∷ s) = cond (comma (a ∷ s)) ([] ∷ fields s) (push a (fields s))
 unfoldable pub before : (List ℕ → Bool) → List ℕ → List ℕ
 before test [] = []
 before test (a ∷ s) = cond (test (a ∷ s)) [] (a ∷ before test s)
+
+-- the first place, counted from n, where the rest of a text passes a test
+unfoldable pub first_from : (List ℕ → Bool) → ℕ → List ℕ → Option ℕ
+first_from test n [] = None
+first_from test n (a ∷ s) = cond (test (a ∷ s)) (Some n) (first_from test (suc n) s)
+
+abbrev pub first : (List ℕ → Bool) → List ℕ → Option ℕ
+first test s = first_from test 0 s
 
 -- the first line of a text, and the first field of a line
 abbrev pub line : List ℕ → List ℕ
@@ -52,9 +66,8 @@ abbrev pub field_at : List ℕ → ℕ → Span
 field_at l at = span_at comma 1 l at
 
 -- each byte of a text passes a test
-unfoldable pub all : (ℕ → Bool) → List ℕ → Bool
-all test [] = true
-all test (a ∷ s) = test a && all test s
+abbrev pub all : (ℕ → Bool) → List ℕ → Bool
+all test s = list_all test s
 
 -- no quote mark, CR or LF
 unfoldable pub plain : ℕ → Bool

@@ -1,7 +1,6 @@
 -- The form of a sheet: RFC 4180 text of at most 64 KiB, a header and then records. Header, number of fields and the test of a record are whatever a
 -- sheet of its kind has.
-use Rattle.std.specs.Prelude.{Bool, not, ◌&&◌, List, [], ℕ, ◌-◌, leb, eqb, length, get_or, drop}
-use Rattle.std.proofs.Math.Option.{Option}
+use Rattle.std.specs.Prelude.{Bool, not, ◌&&◌, List, [], ℕ, ◌-◌, leb, eqb, length, get_or, drop, Option}
 use Rattle.answer.specs.Lowest.{lowest}
 use Rattle.text.specs.Bytes.{same}
 use Rattle.csv_form.specs.Lines.{lines, line, fields, all, plain}

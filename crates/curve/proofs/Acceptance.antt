@@ -1,7 +1,7 @@
 -- Accepted curves: how the check's number tells them, and what is known of their points and segments.
-use mathlib.Core.Path.{◌≡◌, refl}
+use mathlib.Core.Path.{◌≡◌, refl, sym}
 use mathlib.Core.Bool.{Bool, true, false, not, ◌&&◌}
-use mathlib.Core.Option.{Option, some, none}
+use Rattle.std.specs.Prelude.{Option, Some, None, MatchOption}
 use Prim.Native.Nat.{ℕ, suc, ◌-◌, ◌≤◌, ◌<◌}
 use native.Mathlib.Nat.{le_of_lt}
 use native.Mathlib.Omega.{arith}
@@ -9,13 +9,12 @@ use borrow.Author.Tests.{lt-ltb, eqb-true, leb-true, ltb-true, not-false}
 use lib.Dec.{leb, ltb, eqb}
 use lib.IntN.{ℤ, pos, negsuc, neg_ℤ, nat_abs}
 use lib.ListN.{length}
-use Rattle.answer.specs.declared.Refusal.{Refusal}
 use Rattle.answer.specs.Numbers.{bad_curve}
-use Rattle.answer.specs.Lowest.{IsLowest}
-use Rattle.answer.specs.Outcome.{Outcome, refused, answered, refusal, refuse, refuse_at, refusal_of}
+use Rattle.answer.specs.Lowest.{lowest, IsLowest}
+use Rattle.answer.specs.Outcome.{Outcome, refused, answered, refusal, refuse, refuse_at}
 use Rattle.answer.specs.Outside.{outside}
-use Rattle.answer.proofs.Lowest.{is-lowest}
-use Rattle.answer.proofs.Outcomes.{told-refused, refuse-passed, refuse_at-passed}
+use Rattle.answer.proofs.Lowest.{is-lowest, only-lowest}
+use Rattle.answer.proofs.Outcomes.{refuse-passed, refuse_at-passed}
 use Rattle.answer.proofs.Outside.{inside, inside-size}
 use Rattle.answer.proofs.Tests.{both, neither}
 use Rattle.curve.specs.declared.Segment.{Segment}
@@ -31,16 +30,8 @@ by-acceptance k P bad good = go (sized k) (first_bad_point k)
   where
     go : (b : Bool) (o : Option ℕ) → P (refuse bad_curve 0 (not b) (refuse_at bad_curve o (answered k)))
     go false o = bad 0
-    go true (some p) = bad p
-    go true none = good
-
--- told by what the check answers
-module _ (k : Curve) (r : Refusal) (e : r ≡ refusal_of (accepting k)) where
-  pub declined : 0 < r.number → accepting k ≡ refused r
-  declined l = rw e (told-refused (accepting k) (rw e at l))
-
-  pub accepted : r.number ≤ 0 → Accepted k
-  accepted l = by-acceptance k (λ o. (refusal_of o).number ≤ 0 → o ≡ answered k) (λ p l. absurd (omega arith)) (λ l. refl) (rw e at l)
+    go true (Some p) = bad p
+    go true None = good
 
 pub sized-facts : (n m : ℕ) → sizes n m ≡ true → (2 ≤ n) × (n ≤ 4096) × (n ≡ m)
 unfolding sizes
@@ -48,6 +39,21 @@ sized-facts n m e =
     let h = both (eqb n m) (leb 2 n && leb n 4096) e in
     let g = both (leb 2 n) (leb n 4096) h.1 in
     (leb-true 2 n g.0, leb-true n 4096 g.1, eqb-true n m h.0)
+
+pub sized_two : (n m : ℕ) → true ≡ sizes n m → 2 ≤ n
+sized_two n m e = (sized-facts n m (sym e)).0
+
+pub sized_paired : (n m : ℕ) → true ≡ sizes n m → n ≡ m
+sized_paired n m e = (sized-facts n m (sym e)).2
+
+pub accepts : (k : Curve) → true ≡ sized k → None ≡ first_bad_point k → Accepted k
+unfolding accepting
+accepts k e f = rw (sym e, sym f) refl
+
+-- the number that `find` finds in a range from 0 is the lowest
+pub lowest-found : (test : ℕ → Bool) (n : ℕ) (r : Option ℕ) → MatchOption r ((i : ℕ) → 0 ≤ i → i < n → test i ≡ false) (λ i. (0 ≤ i) × (i < n) × (test i ≡ true) × ((j : ℕ) → 0 ≤ j → j < i → test j ≡ false)) → r ≡ lowest test 0 n
+lowest-found test n (Some r) h = sym (only-lowest test 0 n (Some r) (record { from = h.0; to = omega arith; passes = h.2; before = h.3 }))
+lowest-found test n None h = sym (only-lowest test 0 n None (λ j p q. h j p (omega arith)))
 
 kelvin-most : (z : ℤ) → nat_abs z ≤ 60000 → kelvin z ≤ 87300
 kelvin-most (pos n) h = omega arith
@@ -64,7 +70,7 @@ unfolding rising
 goes-up s e = let h = both (ltb s.from s.to) (ltb s.low s.high) e in (ltb-true _ _ h.0, ltb-true _ _ h.1)
 
 module _ (k : Curve) (ok : Accepted k) where
-  passed : (sized k ≡ true) × (first_bad_point k ≡ none)
+  passed : (sized k ≡ true) × (first_bad_point k ≡ None)
   unfolding accepting
   passed =
       let size = refuse-passed bad_curve 0 (not (sized k)) (refuse_at bad_curve (first_bad_point k) (answered k)) k ok in
@@ -77,9 +83,9 @@ module _ (k : Curve) (ok : Accepted k) where
   unfolding first_bad_point
   good i h = go _ passed.1 (is-lowest (bad_point k) 0 (points k))
     where
-      go : (o : Option ℕ) → o ≡ none → IsLowest (bad_point k) 0 (points k) o → bad_point k i ≡ false
-      go none e l = l i (omega arith) (omega arith)
-      go (some r) e l = absurd (let z : ◌≡◌ {A = ℕ} 0 1 = cc in omega arith)
+      go : (o : Option ℕ) → o ≡ None → IsLowest (bad_point k) 0 (points k) o → bad_point k i ≡ false
+      go None e l = l i (omega arith) (omega arith)
+      go (Some r) e l = absurd (let z : ◌≡◌ {A = ℕ} 0 1 = cc in omega arith)
 
   pub range : (i : ℕ) → i < points k → (temperature k i ≤ 87300) × (pressure k i ≤ 250000)
   unfolding bad_point

@@ -1,7 +1,7 @@
 -- Laws of the smallest number from a to b that passes a test: what it is, that nothing else is that, and how a search by halving finds it.
 use mathlib.Core.Path.{◌≡◌, sym, ap, ◌∙◌}
 use mathlib.Core.Bool.{Bool, true, false}
-use mathlib.Core.Option.{Option, some, none, get_or}
+use Rattle.std.specs.Prelude.{Option, Some, None, unwrap_or}
 use Prim.Native.Nat.{ℕ, ◌+◌, ◌-◌, ◌≤◌, ◌<◌}
 use native.Mathlib.Decide.{dec_lt}
 use native.Mathlib.Omega.{arith}
@@ -22,19 +22,19 @@ module _ (f : ℕ → Bool) (a b : ℕ) (l : a ≤ b) where
   unfolding smallest
   is-smallest = go (lowest f a (b - a)) (is-lowest f a (b - a))
     where
-      go : (o : Option ℕ) → IsLowest f a (b - a) o → IsSmallest f a b (get_or o b)
-      go (some r) h = record { from = h.from; to = omega (arith, h.to); before = h.before; here = λ _. h.passes }
-      go none h = record { from = l; to = omega arith; before = λ j p q. h j p (omega arith); here = λ p. absurd (omega arith) }
+      go : (o : Option ℕ) → IsLowest f a (b - a) o → IsSmallest f a b (unwrap_or o b)
+      go (Some r) h = record { from = h.from; to = omega (arith, h.to); before = h.before; here = λ _. h.passes }
+      go None h = record { from = l; to = omega arith; before = λ j p q. h j p (omega arith); here = λ p. absurd (omega arith) }
 
   pub only-smallest : (r : ℕ) → IsSmallest f a b r → smallest f a b ≡ r
   unfolding smallest
   only-smallest r h = go (dec_lt r b)
     where
-      go : Dec (r < b) → get_or (lowest f a (b - a)) b ≡ r
-      go (yes m) = ap (λ (o : Option ℕ). get_or o b) (only-lowest f a (b - a) (some r) (record { from = h.from; to = omega arith; passes = h.here m; before = h.before }))
+      go : Dec (r < b) → unwrap_or (lowest f a (b - a)) b ≡ r
+      go (yes m) = ap (λ (o : Option ℕ). unwrap_or o b) (only-lowest f a (b - a) (Some r) (record { from = h.from; to = omega arith; passes = h.here m; before = h.before }))
       go (no m) =
           let last : b ≡ r = omega (arith, h.to) in
-          ap (λ (o : Option ℕ). get_or o b) (only-lowest f a (b - a) none (λ j p q. h.before j p (omega arith))) ∙ last
+          ap (λ (o : Option ℕ). unwrap_or o b) (only-lowest f a (b - a) None (λ j p q. h.before j p (omega arith))) ∙ last
 
   -- of a test that fails at a and passes at b, it is the least
   pub smallest-least : f a ≡ false → f b ≡ true → Least f a b (smallest f a b)
@@ -50,6 +50,17 @@ module _ (f : ℕ → Bool) (a b : ℕ) (l : a ≤ b) where
 
       go : (r : ℕ) → IsSmallest f a b r → Least f a b r
       go r h = let e = here r h (dec_lt r b) in record { above = start r h.from e (dec_lt a r); covered = h.to; passes = e; fails = h.before }
+
+-- where it fails at the first, the first may be left out
+pub smallest-later : (f : ℕ → Bool) (a b : ℕ) → a < b → f a ≡ false → smallest f a b ≡ smallest f (a + 1) b
+smallest-later f a b l e = only-smallest f a b (omega arith) _ (further (smallest f (a + 1) b) (is-smallest f (a + 1) b (omega arith)))
+  where
+    first : (j : ℕ) → a ≤ j → (a + 1 ≤ j → f j ≡ false) → Dec (a < j) → f j ≡ false
+    first j p h (yes m) = h (omega arith)
+    first j p h (no m) = let same : j ≡ a = omega arith in rw same e
+
+    further : (r : ℕ) → IsSmallest f (a + 1) b r → IsSmallest f a b r
+    further r h = record { from = omega (arith, h.from); to = h.to; before = λ j p q. first j p (λ m. h.before j m q) (dec_lt a j); here = h.here }
 
 -- HALVING. A test that keeps passing, from a to b, once it passes
 abbrev pub Keeps : (ℕ → Bool) → ℕ → ℕ → Type 0

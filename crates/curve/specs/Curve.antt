@@ -1,6 +1,5 @@
 -- The vapour curve: which curves are accepted, and the pressure at a temperature (document 01, "The vapour curve" and refusal 11).
-use Rattle.std.specs.Prelude.{◌≡◌, Bool, not, ◌&&◌, ◌||◌, List, ℕ, ◌+◌, ◌-◌, ◌*◌, ◌/◌, ◌≤◌, leb, ltb, eqb, ℤ, pos, neg_ℤ, length, get_or}
-use Rattle.std.proofs.Math.Option.{Option}
+use Rattle.std.specs.Prelude.{◌≡◌, Bool, not, ◌&&◌, ◌||◌, List, ℕ, ◌+◌, ◌-◌, ◌*◌, ◌/◌, ◌≤◌, leb, ltb, eqb, ℤ, pos, neg_ℤ, length, get_or, Option}
 use Rattle.answer.specs.Numbers.{bad_curve}
 use Rattle.answer.specs.Lowest.{lowest}
 use Rattle.answer.specs.Outcome.{Outcome, answered, refuse, refuse_at, and_then}

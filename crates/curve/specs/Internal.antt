@@ -1,11 +1,12 @@
--- What the functions below the promises ask and say: segments of an accepted curve, and what a search finds. No public promise cites this file.
-use Rattle.std.specs.Prelude.{◌≡◌, true, false, ℕ, ◌-◌, ◌≤◌, ◌<◌}
-use Rattle.answer.specs.Outcome.{shown_temperature}
-use Rattle.curve.specs.declared.Condition.{Condition}
-use Rattle.curve.specs.declared.Found.{Found}
+-- What the functions below the promises ask and say. No public promise cites this file.
+use Rattle.std.specs.Prelude.{◌≡◌, Bool, true, ℕ, ◌≤◌, ◌<◌}
+use Rattle.curve.specs.declared.Curve as rust
 use Rattle.curve.specs.declared.Segment.{Segment}
-use Rattle.curve.specs.Curve.{Curve, points, temperature, pressure, searched_on}
-use Rattle.curve.specs.Condition.{test_of}
+use Rattle.curve.specs.Curve.{Curve, curve}
+
+-- the two lists of a curve
+abbrev pub curve_of : rust.Curve → Curve
+curve_of c = curve c.temperatures.now c.pressures.now
 
 -- a segment of an accepted curve
 pub record Sloped (s : Segment) : Type 0 where
@@ -14,14 +15,10 @@ pub record Sloped (s : Segment) : Type 0 where
   pub hot : s.to ≤ 87300
   pub most : s.high ≤ 250000
 
--- the first point i at which a condition holds, which is not the first point: it fails at the one before
-pub record Crossed (c : Condition) (k : Curve) (i : ℕ) : Type 0 where
-  pub second : 1 ≤ i
-  pub point : i < points k
-  pub fails : test_of c (temperature k (i - 1)) (pressure k (i - 1)) ≡ false
-  pub passes : test_of c (temperature k i) (pressure k i) ≡ true
+-- what halving asks of a test: above low it keeps passing once it passes, and it passes at high
+abbrev pub Lasts : (ℕ → Bool) → ℕ → ℕ → Type 0
+Lasts f low high = ((n m : ℕ) → low < n → n ≤ m → m ≤ high → f n ≡ true → f m ≡ true) × (f high ≡ true)
 
--- what a search finds: the answer, and where that is no refusal the segment that has it
-pub record FoundOn (c : Condition) (k : Curve) (r : Found) : Type 0 where
-  pub answer : r.temperature ≡ shown_temperature (searched_on (test_of c) k)
-  pub crossed : r.temperature.refusal.number ≡ 0 → Crossed c k r.segment
+-- between the ends, what a closure says is the test
+abbrev pub Tells : (ℕ → Bool → Type 0) → (ℕ → Bool) → ℕ → ℕ → Type 0
+Tells said f low high = (n : ℕ) (b : Bool) → low < n → n < high → said n b → b ≡ f n

@@ -1,6 +1,5 @@
 -- The smallest hundredth of a degree at which a test passes, of any pressure: by trying each from the first temperature on.
-use Rattle.std.specs.Prelude.{◌≡◌, Bool, true, false, not, cond, ℕ, suc, ◌+◌, ◌-◌, ◌≤◌, ◌<◌, leb, ℤ, pos, negsuc}
-use Rattle.std.proofs.Math.Option.{get_or}
+use Rattle.std.specs.Prelude.{◌≡◌, Bool, true, false, not, cond, ℕ, suc, ◌+◌, ◌-◌, ◌≤◌, ◌<◌, leb, ℤ, pos, negsuc, unwrap_or}
 use Rattle.std.proofs.Math.IntN.{sub_ℕ}
 use Rattle.answer.specs.Numbers.{true_at_first, false_at_last}
 use Rattle.answer.specs.Lowest.{lowest}
@@ -28,7 +27,7 @@ met test p t = test t (p t)
 
 -- the smallest from a to b at which it is met; b where it is met at none before b
 unfoldable pub smallest : (ℕ → Bool) → ℕ → ℕ → ℕ
-smallest f a b = get_or (lowest f a (b - a)) b
+smallest f a b = unwrap_or (lowest f a (b - a)) b
 
 -- from the first temperature a to the last b: 12 where the test is true at the first, 13 where it is false at the last
 unfoldable pub searched : Test → (ℕ → ℕ) → ℕ → ℕ → Outcome ℤ

@@ -1,22 +1,19 @@
 // The vapour curve: which curves are accepted, the pressure at a temperature, and the smallest hundredth of a degree at which a condition holds.
-// A curve is two lists, temperatures in hundredths of °C and pressures in Pa. Inside, a temperature is counted from −273 °C.
+// Temperatures come in and go out in hundredths of °C; inside they are counted from −273 °C.
 #![tactic(auto)]
 
-ghost use Rattle.std.specs.Prelude.{◌≡◌, true, false, ◌≤◌, ◌<◌, pos, length, get_or};
-ghost use Rattle.answer.specs.Outcome.{answered, refusal_of, shown_figure, shown_temperature};
+ghost use Rattle.std.specs.Prelude.{◌≡◌, ℕ, Bool, true, false, ◌+◌, ◌-◌, ◌≤◌, ◌<◌, pos, length};
+ghost use Rattle.answer.specs.Outcome.{answered, refusal_of, told, and_then};
 ghost use Rattle.curve.specs.Smallest.{kelvin as kelvin_of, celsius, clamp as clamp_of, smallest, met};
-ghost use Rattle.curve.specs.Curve.{curve, last, sizes, rising, bad_point, accepting, Accepted, between, segment, segment_of, pressure_asked, on_curve, Sound};
+ghost use Rattle.curve.specs.Curve.{curve, points, temperature, pressure, first, last, sized, rising, bad_point, first_bad_point, accepting, Accepted, between, segment, segment_of, pressure_at, pressure_asked, searched_on, on_curve, Sound};
 ghost use Rattle.curve.specs.Condition.{bounded, test_of, met_within};
-ghost use Rattle.curve.specs.Internal.{Sloped, FoundOn};
+ghost use Rattle.curve.specs.Internal.{curve_of, Sloped, Tells, Lasts};
 
-use answer::{
-    Figure, Refusal, Temperature, answered_figure, answered_temperature, is_outside,
-    is_outside_signed, refused_figure, refused_temperature,
-};
-use rounding::{divide, size};
+use answer::{Reason, Refused, is_outside};
+use rounding::divide;
 
 // level ≤ (slope · t + base) · p, of a temperature t and a pressure p.
-#[derive(Clone, Copy)]
+#[derive(Clone, Copy, Debug, PartialEq, Eq)]
 pub struct Condition {
     pub slope: u64,
     pub base: u64,
@@ -25,268 +22,319 @@ pub struct Condition {
 
 // A segment of a curve.
 #[derive(Clone, Copy)]
-pub struct Segment {
-    pub from: u64,
-    pub to: u64,
-    pub low: u64,
-    pub high: u64,
+struct Segment {
+    from: u64,
+    to: u64,
+    low: u64,
+    high: u64,
 }
 
-// What a search finds: the point at which the segment of the answer ends, 0 with a refusal; and the answer.
+// A segment of an accepted curve.
 #[derive(Clone, Copy)]
-struct Found {
-    segment: usize,
-    temperature: Temperature,
+struct AcceptedSegment {
+    segment: Segment,
+    ghost sloped: { Sloped segment },
+}
+
+// A curve as it is handed in: temperatures in hundredths of °C, and a pressure in Pa at each.
+#[derive(Clone, Copy)]
+struct Curve<'a> {
+    temperatures: &'a [i64],
+    pressures: &'a [u64],
+}
+
+// A curve that was accepted.
+#[derive(Clone, Copy)]
+struct AcceptedCurve<'a> {
+    curve: Curve<'a>,
+    ghost accepted: { Accepted (curve_of curve) },
+    ghost two: { 2 ≤ length curve.temperatures.now },
+    ghost paired: { length curve.temperatures.now ≡ length curve.pressures.now },
 }
 
 // A temperature in hundredths of °C, counted from −273 °C; 0 below.
 pub fn kelvin(t: i64) -> u64
     ensures { result ≡ kelvin_of t }
 {
-    if t < -27300 {
-        return 0;
-    }
-    if t < 0 {
-        return (27300 + t) as u64;
-    }
-    t as u64 + 27300
-}
-
-// A number brought to low to high.
-#[tactic(auto, unfolding(crate::specs::Smallest::clamp))]
-fn clamp(low: u64, high: u64, n: u64) -> u64
-    ensures { result ≡ clamp_of low high n }
-{
-    if n <= low {
-        return low;
-    }
-    if high <= n {
-        return high;
-    }
-    n
+    27300u64.saturating_add_signed(t)
 }
 
 // The way back: the answer t, counted from −273 °C; 600.00 for a later one.
-pub fn answer_at(t: u64) -> Temperature
-    ensures { result ≡ shown_temperature (answered (celsius (clamp_of 0 87300 t))) }
+#[tactic(auto, using(crate::proofs::Signed::min_only, crate::proofs::Signed::lowered_is))]
+pub fn answer_at(t: u64) -> i64
+    ensures { result ≡ celsius (clamp_of 0 87300 t) }
 {
-    answered_temperature(clamp(0, 87300, t) as i64 - 27300)
+    t.min(87300) as i64 - 27300
 }
 
-// The temperature of point i.
-fn temperature_at(temperatures: &[i64], i: usize) -> u64
-    requires { i < length temperatures.now }
-    ensures { result ≡ kelvin_of (get_or temperatures.now i (pos 0)) }
+// The smallest number above low that passes a test, by halving. The test keeps passing once it passes, and high passes.
+fn bisect<F: Fn(u64) -> bool>(passes: F, low: u64, high: u64) -> u64
+    requires apart { low < high }
+    requires callable { (n : ℕ) → low < n → n < high → F.pre passes n }
+    ensures above { low < result }
+    ensures within { result ≤ high }
+    ensures smallest { (f : ℕ → Bool) → Tells (F.post passes) f low high → Lasts f low high → result ≡ smallest f (low + 1) high }
 {
-    kelvin(temperatures[i])
-}
-
-// The segment that ends at point i.
-fn segment_at(temperatures: &[i64], pressures: &[u64], i: usize) -> Segment
-    requires { (1 ≤ i) × (i < length temperatures.now) × (i < length pressures.now) }
-    ensures { result ≡ segment (curve temperatures.now pressures.now) i }
-{
-    Segment {
-        from: temperature_at(temperatures, i - 1),
-        to: temperature_at(temperatures, i),
-        low: pressures[i - 1],
-        high: pressures[i],
-    }
-}
-
-// Whether the lists are of equal length, 2 to 4,096 points.
-#[tactic(auto, unfolding(crate::specs::Curve::sizes))]
-fn is_sized(n: usize, m: usize) -> bool
-    ensures { result ≡ sizes n m }
-{
-    if n != m {
-        return false;
-    }
-    if n < 2 {
-        return false;
-    }
-    n <= 4096
-}
-
-// Whether the point that ends a segment is above the one that starts it.
-#[tactic(auto, unfolding(crate::specs::Curve::rising))]
-fn is_rising(s: Segment) -> bool
-    ensures { result ≡ rising s }
-{
-    if s.to <= s.from {
-        return false;
-    }
-    s.low < s.high
-}
-
-// Whether point i is bad.
-#[tactic(auto, unfolding(crate::specs::Curve::bad_point, crate::specs::Curve::out_of_range))]
-fn is_bad_point(temperatures: &[i64], pressures: &[u64], i: usize) -> bool
-    requires { (i < length temperatures.now) × (i < length pressures.now) }
-    ensures { result ≡ bad_point (curve temperatures.now pressures.now) i }
-{
-    if is_outside_signed(-20000, 60000, temperatures[i]) {
-        return true;
-    }
-    if is_outside(1, 250000, pressures[i]) {
-        return true;
-    }
-    if i == 0 {
-        return false;
-    }
-    !is_rising(segment_at(temperatures, pressures, i))
-}
-
-// Whether a curve is accepted: refusal 11, or number 0.
-pub fn check_curve(temperatures: &[i64], pressures: &[u64]) -> Refusal
-    ensures { result ≡ refusal_of (accepting (curve temperatures.now pressures.now)) }
-{
-    if !is_sized(temperatures.len(), pressures.len()) {
-        return Refusal {
-            number: answer::BAD_CURVE,
-            place: 0,
-        };
-    }
-    let mut i: usize = 0;
-    while i < temperatures.len() {
-        if is_bad_point(temperatures, pressures, i) {
-            return Refusal {
-                number: answer::BAD_CURVE,
-                place: i as u64,
-            };
+    let mut below = low;
+    let mut found = high;
+    loop {
+        if found - below <= 1 {
+            break found;
         }
-        i += 1;
-    }
-    answer::NOT_REFUSED
-}
-
-// The pressure at t on a segment, rounded down.
-fn pressure_on(s: Segment, t: u64) -> u64
-    requires { (Sloped s) × (s.from ≤ t) × (t ≤ s.to) }
-    ensures { (result ≡ between s t) × (result ≤ 250000) }
-{
-    let rise = divide((s.high - s.low) * (t - s.from), s.to - s.from);
-    s.low + rise.quotient
-}
-
-// The segment of an accepted curve that has t: by halving, between a point below t, or the first, and one that is not below t.
-fn segment_of(temperatures: &[i64], pressures: &[u64], t: u64) -> Segment
-    requires { (Accepted (curve temperatures.now pressures.now)) × (t ≤ last (curve temperatures.now pressures.now)) }
-    ensures { result ≡ segment (curve temperatures.now pressures.now) (segment_of (curve temperatures.now pressures.now) t) }
-{
-    let mut low: usize = 0;
-    let mut high = temperatures.len() - 1;
-    while 1 < high - low {
-        let mid = low + (high - low) / 2;
-        if t <= temperature_at(temperatures, mid) {
-            high = mid;
+        let mid = below + (found - below) / 2;
+        if passes(mid) {
+            found = mid;
         } else {
-            low = mid;
+            below = mid;
         }
     }
-    segment_at(temperatures, pressures, high)
-}
-
-// The pressure at a temperature; below the curve's first temperature that of the first point, above its last that of the last. Refusal 11.
-pub fn pressure_at(temperatures: &[i64], pressures: &[u64], temperature: i64) -> Figure
-    ensures { result ≡ shown_figure (pressure_asked temperature (curve temperatures.now pressures.now)) }
-{
-    let bad = check_curve(temperatures, pressures);
-    if 0 < bad.number {
-        return refused_figure(bad.number, bad.place);
-    }
-    let first = temperature_at(temperatures, 0);
-    let last = temperature_at(temperatures, temperatures.len() - 1);
-    let t = clamp(first, last, kelvin(temperature));
-    answered_figure(pressure_on(segment_of(temperatures, pressures, t), t))
 }
 
 // Whether (slope · 87300 + base) · 250000 is below 2 ^ 64.
+#[tactic(auto, unfolding(crate::specs::Condition::bounded))]
 fn is_bounded(c: Condition) -> bool
     ensures { result ≡ bounded c }
 {
-    if 845211641 < c.slope {
-        return false;
-    }
-    c.base <= 73786976294838 - 87300 * c.slope
+    c.slope <= 845211641 && c.base <= 73786976294838 - 87300 * c.slope
 }
 
 // Whether the condition holds at t and p; it does not where it is not bounded, beyond 600.00 °C or beyond 250,000 Pa.
+#[tactic(auto, unfolding(crate::specs::Condition::met_within, crate::specs::Condition::test_of, crate::specs::Condition::holds), using(crate::proofs::Conditions::factor_most, crate::proofs::Conditions::product_most))]
 pub fn is_met(c: Condition, t: u64, p: u64) -> bool
     ensures { result ≡ met_within c t p }
 {
-    if 87300 < t {
-        return false;
-    }
-    if 250000 < p {
-        return false;
-    }
-    if !is_bounded(c) {
-        return false;
-    }
-    c.level <= (c.slope * t + c.base) * p
+    t <= 87300 && p <= 250000 && is_bounded(c) && c.level <= (c.slope * t + c.base) * p
 }
 
-// The smallest hundredth of a segment at which the condition holds; it fails at the segment's start and holds at its end.
-fn hundredth(c: Condition, s: Segment) -> u64
-    requires { (Sloped s) × (met (test_of c) (between s) s.from ≡ false) × (met (test_of c) (between s) s.to ≡ true) }
-    ensures { result ≡ smallest (met (test_of c) (between s)) s.from s.to }
-{
-    let mut low = s.from;
-    let mut high = s.to;
-    let found = loop {
-        if high - low <= 1 {
-            break high;
-        }
-        let mid = low + (high - low) / 2;
-        if is_met(c, mid, pressure_on(s, mid)) {
-            high = mid;
-        } else {
-            low = mid;
-        }
-    };
-    found
+impl Segment {
+    // Whether the point that ends it is above the one that starts it.
+    #[tactic(auto, unfolding(crate::specs::Curve::rising))]
+    fn is_rising(self) -> bool
+        ensures { result ≡ rising self }
+    {
+        self.from < self.to && self.low < self.high
+    }
 }
 
-// The search over an accepted curve: over its segments, then over the hundredths of the first that ends where the condition holds.
-fn search(temperatures: &[i64], pressures: &[u64], c: Condition) -> Found
-    requires { Accepted (curve temperatures.now pressures.now) }
-    ensures { FoundOn c (curve temperatures.now pressures.now) result }
-{
-    let mut i: usize = 0;
-    let found = loop {
-        if temperatures.len() <= i {
-            break Found {
-                segment: 0,
-                temperature: refused_temperature(answer::FALSE_AT_LAST, 0),
-            };
+impl AcceptedSegment {
+    // The pressure at t, rounded down.
+    fn pressure_at(self, t: u64) -> u64
+        requires { (self.segment.from ≤ t) × (t ≤ self.segment.to) }
+        ensures { (result ≡ between self.segment t) × (result ≤ 250000) }
+    {
+        let s = self.segment;
+        let rise = divide((s.high - s.low) * (t - s.from), s.to - s.from);
+        s.low + rise.quotient
+    }
+
+    // Whether the condition holds at t.
+    #[tactic(auto, using(crate::proofs::Conditions::met_inside))]
+    fn is_met_at(self, c: Condition, t: u64) -> bool
+        requires { (self.segment.from ≤ t) × (t ≤ self.segment.to) }
+        ensures { result ≡ met (test_of c) (between self.segment) t }
+    {
+        is_met(c, t, self.pressure_at(t))
+    }
+
+    // The smallest hundredth at which the condition holds; it fails at the segment's start and holds at its end.
+    fn hundredth(self, c: Condition) -> u64
+        requires fails { met (test_of c) (between self.segment) self.segment.from ≡ false }
+        requires holds { met (test_of c) (between self.segment) self.segment.to ≡ true }
+        ensures { result ≡ smallest (met (test_of c) (between self.segment)) self.segment.from self.segment.to }
+    {
+        bisect(|t| self.is_met_at(c, t), self.segment.from, self.segment.to)
+    }
+}
+
+// That i is a point is required of each method that takes one: each caller has i from a loop or a search, and a type for it would be no plainer.
+impl<'a> Curve<'a> {
+    // The temperature of point i.
+    fn temperature_at(&self, i: usize) -> u64
+        requires { i < length self.now.temperatures.now }
+        ensures { result ≡ temperature (curve_of self.now) i }
+    {
+        kelvin(self.temperatures[i])
+    }
+
+    // The segment that ends at point i.
+    fn segment_at(&self, i: usize) -> Segment
+        requires { (1 ≤ i) × (i < length self.now.temperatures.now) × (i < length self.now.pressures.now) }
+        ensures { result ≡ segment (curve_of self.now) i }
+    {
+        Segment {
+            from: self.temperature_at(i - 1),
+            to: self.temperature_at(i),
+            low: self.pressures[i - 1],
+            high: self.pressures[i],
         }
-        if is_met(c, temperature_at(temperatures, i), pressures[i]) {
-            if i == 0 {
-                break Found {
-                    segment: 0,
-                    temperature: refused_temperature(answer::TRUE_AT_FIRST, 0),
-                };
+    }
+
+    // Whether the lists are of equal length, 2 to 4,096 points.
+    #[tactic(auto, unfolding(crate::specs::Curve::sizes))]
+    fn is_sized(&self) -> bool
+        ensures { result ≡ sized (curve_of self.now) }
+    {
+        let n = self.temperatures.len();
+        n == self.pressures.len() && 2 <= n && n <= 4096
+    }
+
+    // Whether point i is bad.
+    #[tactic(auto, unfolding(crate::specs::Curve::bad_point, crate::specs::Curve::out_of_range))]
+    fn is_bad_point(&self, i: usize) -> bool
+        requires { (i < length self.now.temperatures.now) × (i < length self.now.pressures.now) }
+        ensures { result ≡ bad_point (curve_of self.now) i }
+    {
+        is_outside(-20000, 60000, self.temperatures[i])
+            || is_outside(1, 250000, self.pressures[i])
+            || 0 < i && !self.segment_at(i).is_rising()
+    }
+
+    // The first bad point.
+    fn first_bad_point(&self) -> Option<usize>
+        requires { length self.now.temperatures.now ≡ length self.now.pressures.now }
+        ensures { result ≡ first_bad_point (curve_of self.now) }
+    {
+        (0..self.temperatures.len()).find(|i| self.is_bad_point(*i))
+    }
+}
+
+impl<'a> AcceptedCurve<'a> {
+    // The curve of two lists, where it is accepted. Refusal 11.
+    #[tactic(auto, unfolding(crate::specs::Curve::accepting), using(crate::proofs::Acceptance::accepts, crate::proofs::Acceptance::sized_two, crate::proofs::Acceptance::sized_paired))]
+    fn of(temperatures: &'a [i64], pressures: &'a [u64]) -> Result<AcceptedCurve<'a>, Refused>
+        ensures { and_then (told result) (λ k. answered (curve_of k.curve)) ≡ accepting (curve temperatures.now pressures.now) }
+    {
+        let curve = Curve {
+            temperatures,
+            pressures,
+        };
+        if !curve.is_sized() {
+            return Err(Reason::BadCurve.at(0));
+        }
+        if let Some(i) = curve.first_bad_point() {
+            return Err(Reason::BadCurve.at(i as u64));
+        }
+        Ok(AcceptedCurve { curve })
+    }
+
+    // The last point.
+    fn last_point(&self) -> usize
+        ensures { result ≡ points (curve_of self.now.curve) - 1 }
+    {
+        self.curve.temperatures.len() - 1
+    }
+
+    // The first temperature, and the last.
+    fn first(&self) -> u64
+        ensures { result ≡ first (curve_of self.now.curve) }
+    {
+        self.curve.temperature_at(0)
+    }
+
+    fn last(&self) -> u64
+        ensures { result ≡ last (curve_of self.now.curve) }
+    {
+        self.curve.temperature_at(self.last_point())
+    }
+
+    // The segment that ends at point i.
+    fn segment_at(&self, i: usize) -> AcceptedSegment
+        requires { (1 ≤ i) × (i < points (curve_of self.now.curve)) }
+        ensures { result.segment ≡ segment (curve_of self.now.curve) i }
+    {
+        AcceptedSegment {
+            segment: self.curve.segment_at(i),
+        }
+    }
+
+    // The segment that has t.
+    fn segment_of(&self, t: u64) -> AcceptedSegment
+        requires { t ≤ last (curve_of self.now.curve) }
+        ensures { let k = curve_of self.now.curve in result.segment ≡ segment k (segment_of k t) }
+    {
+        let end = bisect(
+            |i| t <= self.curve.temperature_at(i as usize),
+            0,
+            self.last_point() as u64,
+        );
+        self.segment_at(end as usize)
+    }
+
+    // The pressure at t; below the curve's first temperature that of the first point, above its last that of the last.
+    fn pressure_at(&self, t: u64) -> u64
+        ensures { let k = curve_of self.now.curve in result ≡ pressure_at k (clamp_of (first k) (last k) t) }
+    {
+        let t = t.clamp(self.first(), self.last());
+        self.segment_of(t).pressure_at(t)
+    }
+
+    // Whether the condition holds at point i.
+    fn is_met_at(&self, c: Condition, i: usize) -> bool
+        requires { i < points (curve_of self.now.curve) }
+        ensures { let k = curve_of self.now.curve in result ≡ test_of c (temperature k i) (pressure k i) }
+    {
+        is_met(c, self.curve.temperature_at(i), self.curve.pressures[i])
+    }
+
+    // Where the condition holds at point i and at none before: the smallest hundredth of the segment that ends there, or refusal 12 at the first point.
+    fn answer_at_point(&self, c: Condition, i: usize) -> Result<i64, Refused>
+        requires point { i < points (curve_of self.now.curve) }
+        requires holds { let k = curve_of self.now.curve in test_of c (temperature k i) (pressure k i) ≡ true }
+        requires fails { let k = curve_of self.now.curve in (j : ℕ) → j < i → test_of c (temperature k j) (pressure k j) ≡ false }
+        ensures { told result ≡ searched_on (test_of c) (curve_of self.now.curve) }
+    {
+        if i == 0 {
+            return Err(Reason::TrueAtFirst.at(0));
+        }
+        Ok(answer_at(self.segment_at(i).hundredth(c)))
+    }
+
+    // The search: over the segments, then over the hundredths of the first that ends where the condition holds; each is left by `break`, as document 01 names
+    // it. Refusals 12, 13.
+    fn smallest_hundredth(&self, c: Condition) -> Result<i64, Refused>
+        ensures { told result ≡ searched_on (test_of c) (curve_of self.now.curve) }
+    {
+        let mut found = Err(Reason::FalseAtLast.at(0));
+        for i in 0..self.curve.temperatures.len() {
+            if self.is_met_at(c, i) {
+                found = self.answer_at_point(c, i);
+                break;
             }
-            let t = hundredth(c, segment_at(temperatures, pressures, i));
-            break Found {
-                segment: i,
-                temperature: answer_at(t),
-            };
         }
-        i += 1;
-    };
-    found
+        found
+    }
+}
+
+// Whether a curve is accepted. Refusal 11. (Here and below the two lists stand apart, as C hands them to the questions that end in `smallest_hundredth`.)
+pub fn check_curve(temperatures: &[i64], pressures: &[u64]) -> Result<(), Refused>
+    ensures { refusal_of (told result) ≡ refusal_of (accepting (curve temperatures.now pressures.now)) }
+{
+    AcceptedCurve::of(temperatures, pressures)?;
+    Ok(())
+}
+
+// The pressure at a temperature; below the curve's first temperature that of the first point, above its last that of the last. Refusal 11.
+#[tactic(auto, unfolding(crate::specs::Curve::pressure_asked))]
+pub fn pressure_at(
+    temperatures: &[i64],
+    pressures: &[u64],
+    temperature: i64,
+) -> Result<u64, Refused>
+    ensures { told result ≡ pressure_asked temperature (curve temperatures.now pressures.now) }
+{
+    let curve = AcceptedCurve::of(temperatures, pressures)?;
+    Ok(curve.pressure_at(kelvin(temperature)))
 }
 
 // The smallest hundredth of a degree at which the condition holds along a curve; one that is not bounded holds nowhere. Refusals 11, 12, 13.
-pub fn smallest_hundredth(c: Condition, temperatures: &[i64], pressures: &[u64]) -> Temperature
-    ensures value { result ≡ shown_temperature (on_curve (test_of c) (curve temperatures.now pressures.now)) }
+#[tactic(auto, unfolding(crate::specs::Curve::on_curve), using(crate::proofs::Searches::sound))]
+pub fn smallest_hundredth(
+    c: Condition,
+    temperatures: &[i64],
+    pressures: &[u64],
+) -> Result<i64, Refused>
+    ensures value { told result ≡ on_curve (test_of c) (curve temperatures.now pressures.now) }
     ensures sound { Sound (curve temperatures.now pressures.now) }
 {
-    let bad = check_curve(temperatures, pressures);
-    if 0 < bad.number {
-        return refused_temperature(bad.number, bad.place);
-    }
-    search(temperatures, pressures, c).temperature
+    AcceptedCurve::of(temperatures, pressures)?.smallest_hundredth(c)
 }

@@ -1,6 +1,6 @@
 -- The elements 1 to 10, atom counts, and weighted sums of them (document 01, "Formula text").
-use Rattle.std.specs.Prelude.{Bool, true, false, List, [], ◌∷◌, map, ℕ, zero, suc, ◌+◌, ◌*◌, ◌-◌, min, eqb, ltb, get_or, replicate}
-use Rattle.std.proofs.Math.Option.{Option, Option-elim}
+use Rattle.std.specs.Prelude.{Bool, true, false, List, [], ◌∷◌, map, ℕ, zero, suc, ◌+◌, ◌*◌, ◌-◌, min, eqb, ltb, get_or, replicate, Option}
+use Rattle.std.specs.Option.{is_none}
 use Rattle.answer.specs.Lowest.{lowest}
 use Rattle.text.specs.Bytes.{bytes}
 use Rattle.elements.specs.declared.Element.{Element}
@@ -75,7 +75,7 @@ first_above bounds a = lowest (λ k. ltb (count_at bounds k) (count_at a k)) 1 1
 
 -- no atoms of any element
 unfoldable pub is_empty : Atoms → Bool
-is_empty a = Option-elim (first_above (each 0) a) true (λ k. false)
+is_empty a = is_none (first_above (each 0) a)
 
 -- WEIGHTED SUMS. f 0 + f 1 + .. (n of them)
 unfoldable pub sum_below : (ℕ → ℕ) → ℕ → ℕ

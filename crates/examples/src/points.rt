@@ -1,28 +1,8 @@
 // Flash and fire points, from bonds, from a class and on a curve, and lower temperature limits.
-use crate::{show, show_degrees, show_mark, show_named, show_number};
-use answer::{RoundedTemperature, Temperature};
+use crate::shown::{Degrees, rounded_degrees, show_answer};
 use bonds::Bonds;
 use elements::Atoms;
 use std::io;
-
-// A temperature found on a curve.
-fn show_temperature(rt: &impl Print, name: &[u8], answer: Temperature) -> io::Result<()> {
-    if show_named(rt, name, answer.refusal)? {
-        show_degrees(rt, answer.value)?;
-        show(rt, b"\n")?;
-    }
-    Ok(())
-}
-
-// A temperature that was rounded.
-fn show_point(rt: &impl Print, name: &[u8], answer: RoundedTemperature) -> io::Result<()> {
-    if show_named(rt, name, answer.refusal)? {
-        show_degrees(rt, answer.value)?;
-        show_mark(rt, answer.mark)?;
-        show(rt, b"\n")?;
-    }
-    Ok(())
-}
 
 // Carbon and hydrogen, and oxygen.
 pub fn fuel(c: u64, h: u64, o: u64) -> Atoms {
@@ -44,134 +24,85 @@ pub fn bonds_of(single: u64, ring: u64, c_h: u64, c_o: u64, o_h: u64) -> Bonds {
 
 pub fn show_bonds(
     rt: &impl Print,
-    name: &[u8],
+    name: &str,
     method: u64,
-    atoms: Atoms,
-    bonds: Bonds,
+    (atoms, bonds): (Atoms, Bonds),
     boiling: i64,
 ) -> io::Result<()> {
-    show_point(
-        rt,
-        name,
-        flash::flash_by_bonds(method, atoms, bonds, boiling),
-    )
+    let point = flash::flash_by_bonds(method, atoms, bonds, boiling);
+    show_answer(rt, &name, point.map(rounded_degrees))
+}
+
+fn show_class(rt: &impl Print, name: &str, class: u64, boiling: i64) -> io::Result<()> {
+    let point = flash::flash_by_class(class, boiling);
+    show_answer(rt, &name, point.map(rounded_degrees))
 }
 
 pub fn flash_points(rt: &impl Print) -> io::Result<()> {
-    show(rt, b"\nflash and fire points\n")?;
-    let ethanol = bonds_of(1, 0, 5, 1, 1);
-    show_bonds(rt, b"ethanol, closed cup", 1, fuel(2, 6, 1), ethanol, 7840)?;
-    show_bonds(rt, b"ethanol, open cup", 2, fuel(2, 6, 1), ethanol, 7840)?;
-    show_bonds(rt, b"ethanol, fire point", 3, fuel(2, 6, 1), ethanol, 7840)?;
-    show_point(rt, b"ethanol, alcohols", flash::flash_by_class(2, 7840))?;
-    let benzene = bonds_of(0, 6, 6, 0, 0);
-    show_bonds(rt, b"benzene at 80.10", 1, fuel(6, 6, 0), benzene, 8010)?;
-    show_bonds(rt, b"benzene at 80.05", 1, fuel(6, 6, 0), benzene, 8005)?;
-    show_bonds(
-        rt,
-        b"toluene",
-        1,
-        fuel(7, 8, 0),
-        bonds_of(1, 6, 8, 0, 0),
-        11060,
-    )?;
-    show_bonds(rt, b"method 4", 4, fuel(2, 6, 1), ethanol, 7840)?;
-    show_bonds(
-        rt,
-        b"201 C-H bonds",
-        1,
-        fuel(2, 6, 1),
-        bonds_of(1, 0, 201, 1, 1),
-        7840,
-    )?;
-    show_bonds(rt, b"bonds of another", 1, fuel(7, 8, 0), benzene, 7840)?;
-    show_bonds(
-        rt,
-        b"boiling above 600.00",
-        1,
-        fuel(2, 6, 1),
-        ethanol,
-        60001,
-    )?;
-    show_point(rt, b"alkanes at 5.00", flash::flash_by_class(1, 500))?;
-    show_point(rt, b"alkanes at 0.00", flash::flash_by_class(1, 0))?;
-    show_point(rt, b"class 11", flash::flash_by_class(11, 7840))
+    println!(rt; "\nflash and fire points")?;
+    let ethanol = (fuel(2, 6, 1), bonds_of(1, 0, 5, 1, 1));
+    show_bonds(rt, "ethanol, closed cup", 1, ethanol, 7840)?;
+    show_bonds(rt, "ethanol, open cup", 2, ethanol, 7840)?;
+    show_bonds(rt, "ethanol, fire point", 3, ethanol, 7840)?;
+    show_class(rt, "ethanol, alcohols", 2, 7840)?;
+    let benzene = (fuel(6, 6, 0), bonds_of(0, 6, 6, 0, 0));
+    show_bonds(rt, "benzene at 80.10", 1, benzene, 8010)?;
+    show_bonds(rt, "benzene at 80.05", 1, benzene, 8005)?;
+    let toluene = (fuel(7, 8, 0), bonds_of(1, 6, 8, 0, 0));
+    show_bonds(rt, "toluene", 1, toluene, 11060)?;
+    show_bonds(rt, "method 4", 4, ethanol, 7840)?;
+    let many = (fuel(2, 6, 1), bonds_of(1, 0, 201, 1, 1));
+    show_bonds(rt, "201 C-H bonds", 1, many, 7840)?;
+    let other = (fuel(7, 8, 0), bonds_of(0, 6, 6, 0, 0));
+    show_bonds(rt, "bonds of another", 1, other, 7840)?;
+    show_bonds(rt, "boiling above 600.00", 1, ethanol, 60001)?;
+    show_class(rt, "alkanes at 5.00", 1, 500)?;
+    show_class(rt, "alkanes at 0.00", 1, 0)?;
+    show_class(rt, "class 11", 11, 7840)
 }
 
-fn show_lower(rt: &impl Print, name: &[u8], fuel: Atoms) -> io::Result<()> {
-    show_temperature(
-        rt,
-        name,
-        ignition::lower_temperature_limit(fuel, &[0, 1000, 2000], &[1000, 2000, 4000]),
-    )
-}
+const TEMPERATURES: [i64; 3] = [0, 1000, 2000];
 
-fn show_by_curve(
-    rt: &impl Print,
-    name: &[u8],
-    method: u64,
-    diffusion: u64,
-    temperatures: &[i64],
-    pressures: &[u64],
-) -> io::Result<()> {
-    show_temperature(
-        rt,
-        name,
-        ignition::flash_by_curve(method, fuel(6, 6, 0), diffusion, temperatures, pressures),
-    )
-}
+const PRESSURES: [u64; 3] = [1000, 2000, 4000];
 
 fn show_pressure(rt: &impl Print, temperature: i64) -> io::Result<()> {
-    show(rt, b"pressure at ")?;
-    show_degrees(rt, temperature)?;
-    show(rt, b": ")?;
-    let answer = curve::pressure_at(&[0, 1000, 2000], &[1000, 2000, 4000], temperature);
-    show_number(rt, answer.value)?;
-    show(rt, b"\n")
+    let pressure = curve::pressure_at(&TEMPERATURES, &PRESSURES, temperature);
+    let name = format_args!("pressure at {}", Degrees(temperature));
+    show_answer(rt, &name, pressure)
+}
+
+fn show_lower(rt: &impl Print, name: &str, fuel: Atoms) -> io::Result<()> {
+    let limit = ignition::lower_temperature_limit(fuel, &TEMPERATURES, &PRESSURES);
+    show_answer(rt, &name, limit.map(Degrees))
+}
+
+// C6H6 by formula (35).
+fn show_by_curve(
+    rt: &impl Print,
+    name: &str,
+    (method, diffusion): (u64, u64),
+    (temperatures, pressures): (&[i64], &[u64]),
+) -> io::Result<()> {
+    let benzene = fuel(6, 6, 0);
+    let point = ignition::flash_by_curve(method, benzene, diffusion, temperatures, pressures);
+    show_answer(rt, &name, point.map(Degrees))
 }
 
 // The pressures, the lower temperature limits, and C6H6 by formula (35).
 pub fn curves(rt: &impl Print) -> io::Result<()> {
-    show(rt, b"\ncurves\n")?;
-    show_pressure(rt, 0)?;
-    show_pressure(rt, 1443)?;
-    show_pressure(rt, 1444)?;
-    show_pressure(rt, 2000)?;
-    show_lower(rt, b"C2H6", fuel(2, 6, 0))?;
-    show_lower(rt, b"C3H8", fuel(3, 8, 0))?;
-    show_lower(rt, b"CH4", fuel(1, 4, 0))?;
-    show_lower(rt, b"C40H82", fuel(40, 82, 0))?;
-    show_by_curve(rt, b"C6H6", 1, 800, &[0, 1000, 2000], &[1000, 2000, 4000])?;
-    show_by_curve(
-        rt,
-        b"method 0",
-        0,
-        800,
-        &[0, 1000, 2000],
-        &[1000, 2000, 4000],
-    )?;
-    show_by_curve(
-        rt,
-        b"no diffusion",
-        1,
-        0,
-        &[0, 1000, 2000],
-        &[1000, 2000, 4000],
-    )?;
-    show_by_curve(
-        rt,
-        b"not above the one before",
-        1,
-        800,
-        &[0, 1000, 1000],
-        &[1000, 2000, 4000],
-    )?;
-    show_by_curve(
-        rt,
-        b"unequal lengths",
-        1,
-        800,
-        &[0, 1000, 2000],
-        &[1000, 2000],
-    )
+    println!(rt; "\ncurves")?;
+    for temperature in [0, 1443, 1444, 2000] {
+        show_pressure(rt, temperature)?;
+    }
+    show_lower(rt, "C2H6", fuel(2, 6, 0))?;
+    show_lower(rt, "C3H8", fuel(3, 8, 0))?;
+    show_lower(rt, "CH4", fuel(1, 4, 0))?;
+    show_lower(rt, "C40H82", fuel(40, 82, 0))?;
+    show_by_curve(rt, "C6H6", (1, 800), (&TEMPERATURES, &PRESSURES))?;
+    show_by_curve(rt, "method 0", (0, 800), (&TEMPERATURES, &PRESSURES))?;
+    show_by_curve(rt, "no diffusion", (1, 0), (&TEMPERATURES, &PRESSURES))?;
+    let level: (&[i64], &[u64]) = (&[0, 1000, 1000], &PRESSURES);
+    show_by_curve(rt, "not above the one before", (1, 800), level)?;
+    let short: (&[i64], &[u64]) = (&TEMPERATURES, &[1000, 2000]);
+    show_by_curve(rt, "unequal lengths", (1, 800), short)
 }

@@ -1,2 +1,4 @@
 pub mod Sizes
 pub mod Columns
+pub mod Sums
+pub mod Steps

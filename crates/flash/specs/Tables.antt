@@ -1,15 +1,14 @@
 -- Tables 17 to 20 of the source documents, in thousandths (document 01, "Bonds and classes").
-use Rattle.std.specs.Prelude.{List, [], ◌∷◌, ℕ, ℤ, pos, neg_ℤ}
-use Rattle.std.proofs.Math.Option.{Option, none, some}
+use Rattle.std.specs.Prelude.{List, [], ◌∷◌, ℕ, ℤ, pos, neg_ℤ, Option, Some, None}
 use Rattle.flash.specs.declared.Linear.{Linear}
 
 abbrev plus : ℕ → Option ℤ
-plus n = some (pos n)
+plus n = Some (pos n)
 
 abbrev minus : ℕ → Option ℤ
-minus n = some (neg_ℤ (pos n))
+minus n = Some (neg_ℤ (pos n))
 
--- the bonds' coefficients: closed cup, open cup, fire point; `none` is a blank of the table
+-- the bonds' coefficients: closed cup, open cup, fire point; `None` is a blank of the table
 unfoldable pub coefficients : List (List (Option ℤ))
 coefficients =
     (minus 2030 ∷ plus 3630 ∷ plus 27 ∷ [])  -- 1 C–C
@@ -19,21 +18,21 @@ coefficients =
     ∷ (plus 2470 ∷ plus 4620 ∷ minus 111 ∷ [])  -- 5 C–O
     ∷ (plus 11660 ∷ plus 25360 ∷ minus 826 ∷ [])  -- 6 C=O
     ∷ (plus 14150 ∷ minus 7030 ∷ minus 5876 ∷ [])  -- 7 C–N
-    ∷ (plus 12130 ∷ none ∷ none ∷ [])  -- 8 C≡N
-    ∷ (plus 2090 ∷ plus 14860 ∷ none ∷ [])  -- 9 C–S
-    ∷ (minus 11910 ∷ none ∷ none ∷ [])  -- 10 C=S
-    ∷ (plus 3330 ∷ none ∷ none ∷ [])  -- 11 C–F
-    ∷ (plus 15110 ∷ none ∷ none ∷ [])  -- 12 C–Cl
-    ∷ (plus 19400 ∷ none ∷ none ∷ [])  -- 13 C–Br
-    ∷ (minus 4840 ∷ none ∷ none ∷ [])  -- 14 C–Si
-    ∷ (plus 11000 ∷ minus 4580 ∷ none ∷ [])  -- 15 Si–H
-    ∷ (plus 10070 ∷ none ∷ none ∷ [])  -- 16 Si–Cl
+    ∷ (plus 12130 ∷ None ∷ None ∷ [])  -- 8 C≡N
+    ∷ (plus 2090 ∷ plus 14860 ∷ None ∷ [])  -- 9 C–S
+    ∷ (minus 11910 ∷ None ∷ None ∷ [])  -- 10 C=S
+    ∷ (plus 3330 ∷ None ∷ None ∷ [])  -- 11 C–F
+    ∷ (plus 15110 ∷ None ∷ None ∷ [])  -- 12 C–Cl
+    ∷ (plus 19400 ∷ None ∷ None ∷ [])  -- 13 C–Br
+    ∷ (minus 4840 ∷ None ∷ None ∷ [])  -- 14 C–Si
+    ∷ (plus 11000 ∷ minus 4580 ∷ None ∷ [])  -- 15 Si–H
+    ∷ (plus 10070 ∷ None ∷ None ∷ [])  -- 16 Si–Cl
     ∷ (plus 5830 ∷ plus 18150 ∷ minus 261 ∷ [])  -- 17 N–H
     ∷ (plus 23900 ∷ plus 44290 ∷ plus 8216 ∷ [])  -- 18 O–H
-    ∷ (plus 5640 ∷ plus 10750 ∷ none ∷ [])  -- 19 S–H
-    ∷ (plus 3270 ∷ plus 22230 ∷ none ∷ [])  -- 20 P–O
-    ∷ (plus 9640 ∷ minus 9860 ∷ none ∷ [])  -- 21 P=O
-    ∷ (none ∷ plus 50490 ∷ none ∷ [])  -- 22 SiCl3
+    ∷ (plus 5640 ∷ plus 10750 ∷ None ∷ [])  -- 19 S–H
+    ∷ (plus 3270 ∷ plus 22230 ∷ None ∷ [])  -- 20 P–O
+    ∷ (plus 9640 ∷ minus 9860 ∷ None ∷ [])  -- 21 P=O
+    ∷ (None ∷ plus 50490 ∷ None ∷ [])  -- 22 SiCl3
     ∷ []
 
 -- a constant and a slope

@@ -1,261 +1,270 @@
 // Flash and fire points from bonds, formula (33), and from a class, formula (34).
 #![tactic(auto)]
 
-ghost use Rattle.std.specs.Prelude.{◌≡◌, ◌≤◌, pos, nat_abs, ◌*ℤ◌};
-ghost use Rattle.std.proofs.Math.Option.{get_or};
-ghost use Rattle.answer.specs.Lowest.{lowest};
-ghost use Rattle.answer.specs.Outcome.{shown_rounded_temperature};
+ghost use Rattle.std.specs.Prelude.{◌≡◌, ◌≤◌, pos, nat_abs, ◌*ℤ◌, unwrap_or, ◌+◌, ◌^◌};
+ghost use Rattle.answer.specs.Methods.{method_number};
+ghost use Rattle.answer.specs.Outcome.{answered, refuse, told};
+ghost use Rattle.answer.specs.Numbers.{boiling_point_outside};
 ghost use Rattle.flash.specs.Tables.{linear_of, methods, classes};
-ghost use Rattle.flash.specs.Points.{row, boiling_outside, line_terms, sum_from, by_bonds, by_class};
-ghost use Rattle.flash.specs.Internal.{KnownMethod, KnownClass, SmallLine, SmallColumn, FewBonds, column, blank, blank_at, terms_from, shown_sum};
+ghost use Rattle.flash.specs.Points.{row, boiling_outside, no_coefficient_at, line_terms, sum_from, by_bonds, by_class};
+ghost use Rattle.flash.specs.Internal.{class_number, Read, FewBonds, column, bond_terms};
 
-use answer::{
-    RoundedTemperature, answered_rounded_temperature, is_outside, is_outside_signed,
-    refused_rounded_temperature,
-};
+use answer::{PointMethod, Reason, Refused, Rounded, is_outside};
 use bonds::{Bonds, first_above_200, hydrogen_is_unbalanced};
 use elements::Atoms;
 use rounding::round_div_signed;
 
+// The classes, by the numbers that they are asked for with.
+#[derive(Clone, Copy, Debug, PartialEq, Eq)]
+enum Class {
+    Alkanes = 1,
+    Alcohols = 2,
+    Alkylanilines = 3,
+    CarboxylicAcids = 4,
+    Alkylphenols = 5,
+    AromaticHydrocarbons = 6,
+    Aldehydes = 7,
+    Bromoalkanes = 8,
+    Ketones = 9,
+    Chloroalkanes = 10,
+}
+
 // A straight line of the boiling point, in thousandths.
 #[derive(Clone, Copy)]
 struct Linear {
-    constant: i64,
-    slope: i64,
+    constant: i32,
+    slope: i32,
 }
 
-// The bonds' coefficients in hundred-thousandths of a degree, by method. 0 is a blank of the table.
-const CLOSED_CUP: [i64; 22] = [
-    -203000, // 1 C–C
-    -28000, // 2 C…C
-    172000, // 3 C=C
-    110500, // 4 C–H
-    247000, // 5 C–O
-    1166000, // 6 C=O
-    1415000, // 7 C–N
-    1213000, // 8 C≡N
-    209000, // 9 C–S
-    -1191000, // 10 C=S
-    333000, // 11 C–F
-    1511000, // 12 C–Cl
-    1940000, // 13 C–Br
-    -484000, // 14 C–Si
-    1100000, // 15 Si–H
-    1007000, // 16 Si–Cl
-    583000, // 17 N–H
-    2390000, // 18 O–H
-    564000, // 19 S–H
-    327000, // 20 P–O
-    964000, // 21 P=O
-    0, // 22 SiCl3
+// The bonds' coefficients by method, in thousandths of a degree. `None` is a blank of the table.
+const CLOSED_CUP: [Option<i32>; 22] = [
+    Some(-2030), // 1 C–C
+    Some(-280), // 2 C…C
+    Some(1720), // 3 C=C
+    Some(1105), // 4 C–H
+    Some(2470), // 5 C–O
+    Some(11660), // 6 C=O
+    Some(14150), // 7 C–N
+    Some(12130), // 8 C≡N
+    Some(2090), // 9 C–S
+    Some(-11910), // 10 C=S
+    Some(3330), // 11 C–F
+    Some(15110), // 12 C–Cl
+    Some(19400), // 13 C–Br
+    Some(-4840), // 14 C–Si
+    Some(11000), // 15 Si–H
+    Some(10070), // 16 Si–Cl
+    Some(5830), // 17 N–H
+    Some(23900), // 18 O–H
+    Some(5640), // 19 S–H
+    Some(3270), // 20 P–O
+    Some(9640), // 21 P=O
+    None, // 22 SiCl3
 ];
 
-const OPEN_CUP: [i64; 22] = [
-    363000, // 1 C–C
-    648000, // 2 C…C
-    -418000, // 3 C=C
-    35000, // 4 C–H
-    462000, // 5 C–O
-    2536000, // 6 C=O
-    -703000, // 7 C–N
-    0, // 8 C≡N
-    1486000, // 9 C–S
-    0, // 10 C=S
-    0, // 11 C–F
-    0, // 12 C–Cl
-    0, // 13 C–Br
-    0, // 14 C–Si
-    -458000, // 15 Si–H
-    0, // 16 Si–Cl
-    1815000, // 17 N–H
-    4429000, // 18 O–H
-    1075000, // 19 S–H
-    2223000, // 20 P–O
-    -986000, // 21 P=O
-    5049000, // 22 SiCl3
+const OPEN_CUP: [Option<i32>; 22] = [
+    Some(3630), // 1 C–C
+    Some(6480), // 2 C…C
+    Some(-4180), // 3 C=C
+    Some(350), // 4 C–H
+    Some(4620), // 5 C–O
+    Some(25360), // 6 C=O
+    Some(-7030), // 7 C–N
+    None, // 8 C≡N
+    Some(14860), // 9 C–S
+    None, // 10 C=S
+    None, // 11 C–F
+    None, // 12 C–Cl
+    None, // 13 C–Br
+    None, // 14 C–Si
+    Some(-4580), // 15 Si–H
+    None, // 16 Si–Cl
+    Some(18150), // 17 N–H
+    Some(44290), // 18 O–H
+    Some(10750), // 19 S–H
+    Some(22230), // 20 P–O
+    Some(-9860), // 21 P=O
+    Some(50490), // 22 SiCl3
 ];
 
-const FIRE_POINT: [i64; 22] = [
-    2700, // 1 C–C
-    -206900, // 2 C…C
-    -898000, // 3 C=C
-    -211800, // 4 C–H
-    -11100, // 5 C–O
-    -82600, // 6 C=O
-    -587600, // 7 C–N
-    0, // 8 C≡N
-    0, // 9 C–S
-    0, // 10 C=S
-    0, // 11 C–F
-    0, // 12 C–Cl
-    0, // 13 C–Br
-    0, // 14 C–Si
-    0, // 15 Si–H
-    0, // 16 Si–Cl
-    -26100, // 17 N–H
-    821600, // 18 O–H
-    0, // 19 S–H
-    0, // 20 P–O
-    0, // 21 P=O
-    0, // 22 SiCl3
+const FIRE_POINT: [Option<i32>; 22] = [
+    Some(27), // 1 C–C
+    Some(-2069), // 2 C…C
+    Some(-8980), // 3 C=C
+    Some(-2118), // 4 C–H
+    Some(-111), // 5 C–O
+    Some(-826), // 6 C=O
+    Some(-5876), // 7 C–N
+    None, // 8 C≡N
+    None, // 9 C–S
+    None, // 10 C=S
+    None, // 11 C–F
+    None, // 12 C–Cl
+    None, // 13 C–Br
+    None, // 14 C–Si
+    None, // 15 Si–H
+    None, // 16 Si–Cl
+    Some(-261), // 17 N–H
+    Some(8216), // 18 O–H
+    None, // 19 S–H
+    None, // 20 P–O
+    None, // 21 P=O
+    None, // 22 SiCl3
 ];
 
-// A line by its constant and its slope.
-fn line_of(constant: i64, slope: i64) -> Linear
-    ensures { result ≡ linear_of constant slope }
-{
-    Linear { constant, slope }
-}
+impl TryFrom<u64> for Class {
+    type Error = Refused;
 
-// A method's line.
-fn method_line(method: u64) -> Linear
-    requires { KnownMethod method }
-    ensures { result ≡ row methods method }
-{
-    match method {
-        1 => line_of(-73140, 659), // closed cup
-        2 => line_of(-73000, 409), // open cup
-        _ => line_of(-47780, 882), // 3 fire point
+    ghost try_from_gives = { Read };
+
+    fn try_from(number: u64) -> Result<Class, Refused> {
+        match number {
+            1 => Ok(Class::Alkanes),
+            2 => Ok(Class::Alcohols),
+            3 => Ok(Class::Alkylanilines),
+            4 => Ok(Class::CarboxylicAcids),
+            5 => Ok(Class::Alkylphenols),
+            6 => Ok(Class::AromaticHydrocarbons),
+            7 => Ok(Class::Aldehydes),
+            8 => Ok(Class::Bromoalkanes),
+            9 => Ok(Class::Ketones),
+            10 => Ok(Class::Chloroalkanes),
+            _ => Err(Reason::UnknownMethod.at(0)),
+        }
     }
 }
 
-// A class's line.
-fn class_line(class: u64) -> Linear
-    requires { KnownClass class }
-    ensures { result ≡ row classes class }
-{
-    match class {
-        1 => line_of(-73220, 693), // alkanes
-        2 => line_of(-41690, 652), // alcohols
-        3 => line_of(-21940, 533), // alkylanilines
-        4 => line_of(-43570, 708), // carboxylic acids
-        5 => line_of(-38420, 623), // alkylphenols
-        6 => line_of(-67830, 665), // aromatic hydrocarbons
-        7 => line_of(-74760, 813), // aldehydes
-        8 => line_of(-49560, 665), // bromoalkanes
-        9 => line_of(-52690, 643), // ketones
-        _ => line_of(-55700, 631), // 10 chloroalkanes
+impl Linear {
+    fn new(constant: i32, slope: i32) -> Linear
+        ensures { result ≡ linear_of constant slope }
+    {
+        Linear { constant, slope }
     }
+
+    // A method's line.
+    #[tactic(auto, unfolding(crate::specs::Tables::methods))]
+    fn of_method(method: PointMethod) -> Linear
+        ensures { result ≡ row methods (method_number method) }
+    {
+        match method {
+            PointMethod::ClosedCup => Linear::new(-73140, 659),
+            PointMethod::OpenCup => Linear::new(-73000, 409),
+            PointMethod::FirePoint => Linear::new(-47780, 882),
+        }
+    }
+
+    // A class's line.
+    #[tactic(auto, unfolding(crate::specs::Tables::classes))]
+    fn of_class(class: Class) -> Linear
+        ensures { result ≡ row classes (class_number class) }
+    {
+        match class {
+            Class::Alkanes => Linear::new(-73220, 693),
+            Class::Alcohols => Linear::new(-41690, 652),
+            Class::Alkylanilines => Linear::new(-21940, 533),
+            Class::CarboxylicAcids => Linear::new(-43570, 708),
+            Class::Alkylphenols => Linear::new(-38420, 623),
+            Class::AromaticHydrocarbons => Linear::new(-67830, 665),
+            Class::Aldehydes => Linear::new(-74760, 813),
+            Class::Bromoalkanes => Linear::new(-49560, 665),
+            Class::Ketones => Linear::new(-52690, 643),
+            Class::Chloroalkanes => Linear::new(-55700, 631),
+        }
+    }
+
+    // What the line says at a boiling point, in hundred-thousandths of a degree.
+    fn at(self, boiling: i32) -> i64
+        ensures value { result ≡ sum_from (pos 0) (line_terms self boiling) }
+        ensures small { nat_abs result ≤ 2 ^ 38 + 2 ^ 62 }
+    {
+        100 * i64::from(self.constant) + i64::from(self.slope) * i64::from(boiling)
+    }
+}
+
+// A boiling point from −200.00 to 600.00.
+fn boiling_point(boiling: i64) -> Result<i32, Refused>
+    ensures { told result ≡ refuse boiling_point_outside 0 (boiling_outside boiling) (answered boiling) }
+{
+    if is_outside(-20000, 60000, boiling) {
+        return Err(Reason::BoilingPointOutside.at(0));
+    }
+    Ok(boiling as i32)
 }
 
 // A method's coefficients.
-fn column_of(method: u64) -> [i64; 22]
-    requires { KnownMethod method }
-    ensures { result ≡ column method }
+#[tactic(auto, unfolding(crate::specs::Tables::coefficients))]
+fn column_of(method: PointMethod) -> [Option<i32>; 22]
+    ensures { result ≡ column (method_number method) }
 {
-    if method == 1 {
-        return CLOSED_CUP;
+    match method {
+        PointMethod::ClosedCup => CLOSED_CUP,
+        PointMethod::OpenCup => OPEN_CUP,
+        PointMethod::FirePoint => FIRE_POINT,
     }
-    if method == 2 {
-        return OPEN_CUP;
-    }
-    FIRE_POINT
 }
 
-// Whether a boiling point is outside −200.00 to 600.00.
-fn is_boiling_outside(boiling: i64) -> bool
-    ensures { result ≡ boiling_outside boiling }
+// The lowest kind with bonds and no coefficient.
+fn first_missing(method: PointMethod, bonds: Bonds) -> Option<u64>
+    ensures { result ≡ no_coefficient_at (method_number method) bonds }
 {
-    is_outside_signed(-20000, 60000, boiling)
+    bonds
+        .count
+        .iter()
+        .zip(column_of(method).iter())
+        .position(|(n, coefficient)| 0 < *n && coefficient.is_none())
+        .map(|i| i as u64 + 1)
 }
 
-// Whether there are bonds, and their coefficient is a blank.
-fn is_missing(bonds: u64, coefficient: i64) -> bool
-    ensures { result ≡ blank bonds coefficient }
+// What the bonds of a kind add, in hundred-thousandths of a degree.
+fn bond_term(n: u64, coefficient: Option<i32>) -> i64
+    requires { n ≤ 200 }
+    ensures value { result ≡ pos 100 *ℤ unwrap_or coefficient (pos 0) *ℤ pos n }
+    ensures small { nat_abs result ≤ 2 ^ 46 }
 {
-    if bonds == 0 {
-        return false;
-    }
-    coefficient == 0
+    100 * i64::from(coefficient.unwrap_or(0)) * n as i64
 }
 
-// The lowest kind with a count and no coefficient, 0 where there is none.
-fn first_missing(column: [i64; 22], bonds: Bonds) -> u64
-    requires { SmallColumn column }
-    ensures { result ≡ get_or (lowest (blank_at column bonds) 1 22) 0 }
-{
-    let mut i: usize = 0;
-    while i < 22 {
-        if is_missing(bonds.count[i], column[i]) {
-            return i as u64 + 1;
-        }
-        i += 1;
-    }
-    0
-}
-
-// What the bonds of a kind add.
-fn bond_term(bonds: u64, coefficient: i64) -> i64
-    requires { (bonds ≤ 200) × (nat_abs coefficient ≤ 5049000) }
-    ensures { (result ≡ coefficient *ℤ pos bonds) × (nat_abs result ≤ 1009800000) }
-{
-    coefficient * bonds as i64
-}
-
-// What a line says at a boiling point, in hundred-thousandths of a degree.
-fn line_sum(line: Linear, boiling: i64) -> i64
-    requires { SmallLine line × (nat_abs boiling ≤ 60000) }
-    ensures { (result ≡ sum_from (pos 0) (line_terms line boiling)) × (nat_abs result ≤ 70000000) }
-{
-    100 * line.constant + line.slope * boiling
-}
-
-// The same with what the bonds add.
-fn bond_sum(start: i64, column: [i64; 22], bonds: Bonds) -> i64
-    requires { (nat_abs start ≤ 70000000) × SmallColumn column × FewBonds bonds }
-    ensures { result ≡ sum_from start (terms_from column bonds 0) }
+// A sum with what the bonds add.
+fn bond_sum(start: i64, method: PointMethod, bonds: Bonds) -> i64
+    requires start { nat_abs start ≤ 2 ^ 38 + 2 ^ 62 }
+    requires few { FewBonds bonds }
+    ensures { result ≡ sum_from start (bond_terms (method_number method) bonds 0) }
 {
     let mut sum = start;
-    let mut k: usize = 0;
-    while k < 22 {
-        sum += bond_term(bonds.count[k], column[k]);
-        k += 1;
+    for (n, coefficient) in bonds.count.iter().zip(column_of(method).iter()) {
+        sum += bond_term(*n, *coefficient);
     }
     sum
 }
 
-// A sum in hundred-thousandths of a degree, rounded once to hundredths.
-fn rounded_sum(sum: i64) -> RoundedTemperature
-    ensures { result ≡ shown_sum sum }
+// The flash or fire point from bonds: methods 1 closed cup, 2 open cup, 3 fire point; C hands in any number. Refusals 16, 2, 5, 6, 7.
+pub fn flash_by_bonds(
+    method: u64,
+    atoms: Atoms,
+    bonds: Bonds,
+    boiling: i64,
+) -> Result<Rounded<i64>, Refused>
+    ensures { told result ≡ by_bonds method atoms bonds boiling }
 {
-    answered_rounded_temperature(round_div_signed(sum, 1000))
-}
-
-// The flash or fire point from bonds: methods 1 closed cup, 2 open cup, 3 fire point. Refusals 16, 2, 5, 6, 7.
-pub fn flash_by_bonds(method: u64, atoms: Atoms, bonds: Bonds, boiling: i64) -> RoundedTemperature
-    ensures { result ≡ shown_rounded_temperature (by_bonds method atoms bonds boiling) }
-{
-    if is_outside(1, 3, method) {
-        return refused_rounded_temperature(answer::UNKNOWN_METHOD, 0);
-    }
-    let over = first_above_200(atoms, bonds);
-    if 0 < over {
-        return refused_rounded_temperature(answer::COUNT_TOO_LARGE, over);
+    let method = PointMethod::try_from(method)?;
+    if let Some(over) = first_above_200(atoms, bonds) {
+        return Err(Reason::CountTooLarge.at(over));
     }
     if hydrogen_is_unbalanced(atoms, bonds) {
-        return refused_rounded_temperature(answer::HYDROGEN_DIFFERS, 0);
+        return Err(Reason::HydrogenDiffers.at(0));
     }
-    let column = column_of(method);
-    let missing = first_missing(column, bonds);
-    if 0 < missing {
-        return refused_rounded_temperature(answer::NO_COEFFICIENT, missing);
+    if let Some(kind) = first_missing(method, bonds) {
+        return Err(Reason::NoCoefficient.at(kind));
     }
-    if is_boiling_outside(boiling) {
-        return refused_rounded_temperature(answer::BOILING_POINT_OUTSIDE, 0);
-    }
-    let start = line_sum(method_line(method), boiling);
-    rounded_sum(bond_sum(start, column, bonds))
+    let start = Linear::of_method(method).at(boiling_point(boiling)?);
+    Ok(round_div_signed(bond_sum(start, method, bonds), 1000))
 }
 
-// The flash point from a class, 1 to 10. Refusals 16, 7.
-pub fn flash_by_class(class: u64, boiling: i64) -> RoundedTemperature
-    ensures { result ≡ shown_rounded_temperature (by_class class boiling) }
+// The flash point from a class, 1 to 10; C hands in any number. Refusals 16, 7.
+pub fn flash_by_class(class: u64, boiling: i64) -> Result<Rounded<i64>, Refused>
+    ensures { told result ≡ by_class class boiling }
 {
-    if is_outside(1, 10, class) {
-        return refused_rounded_temperature(answer::UNKNOWN_METHOD, 0);
-    }
-    if is_boiling_outside(boiling) {
-        return refused_rounded_temperature(answer::BOILING_POINT_OUTSIDE, 0);
-    }
-    rounded_sum(line_sum(class_line(class), boiling))
+    let class = Class::try_from(class)?;
+    let sum = Linear::of_class(class).at(boiling_point(boiling)?);
+    Ok(round_div_signed(sum, 1000))
 }

@@ -17,7 +17,8 @@ use Rattle.elements.specs.declared.Element.TheVariants.{Carbon, Hydrogen, Oxygen
 use Rattle.elements.specs.Elements.{symbol, one}
 use Rattle.elements.proofs.Elements.{Letters, one as one-letter, two as two-letters, letters}
 use Rattle.formula.specs.Grammar.{Count, unwritten, written, digits, Formula, last, next, Item, element, group, text, item_text, totals, item_totals}
-use Rattle.formula.specs.Reader.{named, symbol_of, symbol_at, counting, symbolic, ends, plus_read, then, items, closing, read_item, read_items}
+use Rattle.formula.specs.declared.Symbol.TheVariants.{Named}
+use Rattle.formula.specs.Reader.{symbol_of, symbol_at, counting, symbolic, ends, plus_read, then, items, closing, read_item, read_items}
 use Rattle.formula.proofs.Counts.{Behind, behind, counting-is}
 use Rattle.formula.proofs.Symbols.{symbol-long}
 use Rattle.formula.proofs.Unfold.{item-other, item-open, then-ends, then-goes}
@@ -59,7 +60,7 @@ item-long (group f n) = omega arith
 
 -- R MAY STAND BEHIND AN ITEM: the reader reads the item and goes no further
 abbrev pub Follows : {d : ℕ} → Item d → List ℕ → Type 0
-Follows (element e n) r = (symbol_at (symbol e ++ (digits n ++ r)) ≡ named e) × Behind n (at r 0)
+Follows (element e n) r = (symbol_at (symbol e ++ (digits n ++ r)) ≡ Named e) × Behind n (at r 0)
 Follows (group f n) r = Behind n (at r 0)
 
 -- a count begins with no letter
@@ -72,7 +73,7 @@ count_low (written n p q) r l = go (dec_lt n 10) (dec_lt n 100)
     go (no h) (yes k) = rw (decimal-two n (omega arith) k) (omega arith)
     go (no h) (no k) = rw (decimal-three n (omega arith) (omega arith)) (omega arith)
 
-alone : (e : Element) (t : List ℕ) → at t 0 < 97 → symbol_at (symbol e ++ t) ≡ named e
+alone : (e : Element) (t : List ℕ) → at t 0 < 97 → symbol_at (symbol e ++ t) ≡ Named e
 unfolding symbol_of
 alone Carbon t l = rw (ne_eqb (at t 0) 108 (λ q. omega arith))
 alone Hydrogen t l = refl

@@ -5,7 +5,6 @@ pub mod Complete
 pub mod Sound
 pub mod Right
 pub mod Caps
-pub mod Positions
+pub mod Heads
 pub mod Steps
 pub mod Judging
-pub mod Texts

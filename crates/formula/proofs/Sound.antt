@@ -15,7 +15,9 @@ use Rattle.elements.specs.declared.Element.TheVariants.{Carbon}
 use Rattle.elements.specs.Elements.{symbol}
 use Rattle.elements.proofs.Elements.{letters}
 use Rattle.formula.specs.Grammar.{unwritten, digits, Formula, last, next, Item, element, group, text, item_text, item_totals}
-use Rattle.formula.specs.Reader.{Symbol, named, half, absent, symbol_of, symbol_at, symbolic, read_element, ends, plus_read, then, items, closing, read_item, read_items}
+use Rattle.formula.specs.declared.Symbol.{Symbol}
+use Rattle.formula.specs.declared.Symbol.TheVariants.{Named, Half, Absent}
+use Rattle.formula.specs.Reader.{symbol_of, symbol_at, symbolic, read_element, ends, plus_read, then, items, closing, read_item, read_items}
 use Rattle.formula.proofs.Unfold.{item-other, item-open, then-goes}
 use Rattle.formula.proofs.Symbols.{Headed, headed, first-letter, symbol-same, absent-any}
 use Rattle.formula.proofs.Counts.{Behind, counts}
@@ -58,19 +60,19 @@ element-at : (d : ℕ) (t : List ℕ) → ((u : List ℕ) → at t 0 ≡ at u 0 
 element-at d t reads = go t reads (symbol_at t) refl (headed t)
   where
     go : (t : List ℕ) → ((u : List ℕ) → at t 0 ≡ at u 0 → read_item d u ≡ read_element u) → (x : Symbol) → symbol_at t ≡ x → Headed t x → ItemAt d t
-    go t reads (named e) q s =
+    go t reads (Named e) q s =
         let k = counts (drop (length (symbol e)) t) in
         let split = s ∙ ap (λ (w : List ℕ). symbol e ++ w) k.split in
         item (element e k.count) k.rest (split ∙ sym (append_assoc (symbol e) (digits k.count) k.rest)) (ap symbol_at (sym split) ∙ q, k.ends)
-    go [] reads half q (e, x, p) = absurd (omega (arith, (first-letter (symbol e) (letters e)).0, ap (λ (w : List ℕ). at w 0) p))
-    go (b ∷ t) reads half q (e, x, p) = no_item (record {
+    go [] reads Half q (e, x, p) = absurd (omega (arith, (first-letter (symbol e) (letters e)).0, ap (λ (w : List ℕ). at w 0) p))
+    go (b ∷ t) reads Half q (e, x, p) = no_item (record {
       front = b ∷ [];
       rest = t;
       split = refl;
       starts = (x, (element e unwritten, append-nil (symbol e) ∙ p));
       stays = λ u z. reads (b ∷ u) refl ∙ ap (symbolic (b ∷ u)) (ap (symbol_of b) (sym z.0) ∙ q);
     })
-    go t reads absent q s = no_item (record {
+    go t reads Absent q s = no_item (record {
       front = [];
       rest = t;
       split = refl;

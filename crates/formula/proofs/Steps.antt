@@ -1,112 +1,124 @@
--- The reader's functions on positions, step by step, against the reader on texts: a closed group, the loop over items, an item.
-use mathlib.Core.Path.{◌≡◌, refl, sym, ap, ◌∙◌}
-use mathlib.Core.Bool.{true, false}
+-- The reader's functions, step by step, against the reader as a function on texts: an element, a closed group, the loop over items, an item.
+use mathlib.Core.Path.{◌≡◌, sym, ap, ◌∙◌}
+use mathlib.Core.Bool.{false}
 use mathlib.Core.List.{List, [], ◌∷◌}
-use Prim.Native.Nat.{ℕ, zero, suc, ◌+◌, ◌-◌, ◌≤◌, ◌<◌}
+use Prim.Native.Nat.{ℕ, zero, suc, ◌-◌, ◌≤◌, ◌<◌}
 use native.Mathlib.Omega.{arith}
 use borrow.Author.Tests.{ne_eqb, eq-eqb}
-use lib.ListN.{length, get_or, drop, length-drop}
-use lib.Seq.{drop-drop}
-use Rattle.answer.proofs.Tests.{never}
-use Rattle.text.specs.Reader.{Result, stuck}
-use Rattle.elements.specs.Elements.{Totals}
-use Rattle.formula.specs.declared.Step.{Step}
-use Rattle.formula.specs.Reader.{symbol_of, counting, ends, plus_read, then, items, closing, read_element, read_item, read_items}
-use Rattle.formula.specs.Internal.{Counted, Adds, Says, advanced, stopped, zeros}
-use Rattle.formula.proofs.Caps.{from-zeros, adds-more}
-use Rattle.formula.proofs.Positions.{byte-here}
-use Rattle.formula.proofs.Unfold.{item-other, item-open, then-ends, then-goes}
+use lib.ListN.{length, take, drop, length-drop}
+use Rattle.std.specs.Prelude.{Ok, Err}
+use Rattle.std.specs.Borrow.{Bor}
+use Rattle.text.specs.Reader as reader
+use Rattle.text.specs.Reader.{at, ok, stuck}
+use Rattle.elements.specs.declared.Element.{Element}
+use Rattle.elements.specs.Elements.{symbol, Totals, nothing, one, times}
+use Rattle.formula.specs.declared.Tally.{Tally}
+use Rattle.formula.specs.declared.Multiple.{Multiple}
+use Rattle.formula.specs.declared.Symbol.TheVariants.{Named}
+use Rattle.formula.specs.Reader.{symbol_of, symbol_at, multiple_at, counting, ends, plus_read, then, items, closing, read_element, read_item, read_items}
+use Rattle.formula.specs.Internal.{Counted, Adds, Left, Says, Closes}
+use Rattle.formula.proofs.Caps.{from-nothing, adds-more}
+use Rattle.formula.proofs.Symbols.{symbol-long}
+use Rattle.formula.proofs.Unfold.{item-other, item-open, then-goes}
+use Rattle.formula.proofs.Heads.{rest}
 
-module _ {s a b : List ℕ} {from : ℕ} {r : Step} where
-  pub says-within : {x : Result Totals} → Says s from a r b x → r.at ≤ length s
-  says-within (advanced p) = p.within
-  says-within (stopped p) = p.within
-
-  -- from an earlier position on
-  pub says-from : {x : Result Totals} (before : ℕ) → before ≤ from → Says s from a r b x → Says s before a r b x
-  says-from before l (advanced p) = advanced (record { good = p.good; further = omega (arith, p.further); within = p.within; left = p.left; adds = p.adds })
-  says-from before l (stopped p) = stopped p
+module _ {t : List ℕ} {a b : Tally} where
+  -- of a longer text
+  says-longer : {r : Left} {x : reader.Result Totals} (v : List ℕ) → length t ≤ length v → Says t a r b x → Says v a r b x
+  says-longer {r = Ok u} {x = ok m w} v l f = record { found = record { further = omega (arith, f.found.further); left = f.found.left; adds = f.found.adds } }
+  says-longer {r = Ok u} {x = stuck w} v l f = absurd f.found
+  says-longer {r = Err u} {x = ok m w} v l f = absurd f.found
+  says-longer {r = Err u} {x = stuck w} v l f = record { found = record { within = omega (arith, f.found.within); left = f.found.left } }
 
   -- behind m, which was added before
-  says-more : {x : Result Totals} (m : Totals) {c : List ℕ} → Adds c m a → Says s from a r b x → Says s from c r b (plus_read m x)
-  says-more m f (advanced {m = n} p) = advanced (record { good = p.good; further = p.further; within = p.within; left = p.left; adds = adds-more m n f p.adds })
-  says-more m f (stopped p) = stopped p
+  says-more : {r : Left} {x : reader.Result Totals} (m : Totals) {c : Tally} → Adds c m a → Says t a r b x → Says t c r b (plus_read m x)
+  says-more {r = Ok u} {x = ok n w} m h f = record { found = record { further = f.found.further; left = f.found.left; adds = adds-more m n h f.found.adds } }
+  says-more {r = Ok u} {x = stuck w} m h f = absurd f.found
+  says-more {r = Err u} {x = ok n w} m h f = absurd f.found
+  says-more {r = Err u} {x = stuck w} m h f = record { found = f.found }
 
-  -- there are no more items where the reader is stuck, or where the text or a group ends
-  then-stuck : {x : Result Totals} (rest : List ℕ → Result Totals) → r.ok ≡ false → Says s from a r b x → Says s from a r b (then rest x)
-  then-stuck rest q (advanced p) = never r.ok p.good q
-  then-stuck rest q (stopped p) = stopped p
+-- what was counted of t behind its beginning, in front of w, as often as the count at the beginning of w says
+says-counted : {t : List ℕ} {a b : Tally} {u : Bor (List ℕ)} (w : List ℕ) (m : Totals) (n : Multiple) → length w < length t → (n ≡ multiple_at w) × (n.size ≤ length w)
+    → u.now ≡ take (length w - n.size) (drop n.size w) → Adds a (times m n.value) b → Says t a (Ok u) b (counting m w)
+says-counted {u} w m n l (e, k) q add =
+    let d : u.now ≡ drop n.size w = q ∙ rest n.size w in
+    rw (← e) (record { found = record { further = omega (arith, ap length d, length-drop n.size w); left = sym d; adds = add } })
 
-  then-end : {x : Result Totals} (rest : List ℕ → Result Totals) → true ≡ ends (drop r.at s) → Says s from a r b x → Says s from a r b (then rest x)
-  then-end rest e (advanced {m = m} {t = t} p) = rw (then-ends rest m t (sym (e ∙ ap ends (sym p.left)))) (advanced p)
-  then-end rest e (stopped p) = stopped p
+-- AN ELEMENT with a count behind it
+pub element-count : {t : List ℕ} {a b : Tally} {u : Bor (List ℕ)} {f : Element} {n : Multiple} (s w : List ℕ) → s ≡ symbol f → (symbol_at t ≡ Named f) × (length (symbol f) ≤ length t)
+    → w ≡ take (length t - length s) (drop (length s) t) → (n ≡ multiple_at w) × (n.size ≤ length w) → Adds a (times (one f) n.value) b
+    → u.now ≡ take (length w - n.size) (drop n.size w) → Says t a (Ok u) b (read_element t)
+element-count {t} {f = f} {n = n} s w z (e, l) q k add d =
+    let behind : w ≡ drop (length (symbol f)) t = q ∙ rest (length s) t ∙ ap (λ (v : List ℕ). drop (length v) t) z in
+    rw (e, ← behind) (says-counted w (one f) n (omega (arith, symbol-long f, ap length behind, length-drop (length (symbol f)) t)) k d add)
 
-  -- THE END OF A GROUP, whose formula was read as r: stuck in it, at the end of the text, or at the bracket
-  module _ {c d : List ℕ} where
-    pub closed_stuck : {x : Result Totals} → r.ok ≡ false → Says s from a r b x → Says s from c r d (closing x)
-    closed_stuck q (advanced p) = never r.ok p.good q
-    closed_stuck q (stopped p) = stopped p
-
-    pub closed-end : {x : Result Totals} → r.ok ≡ true → r.at ≡ length s → Says s from a r b x → Says s from c (record { ok = false; at = r.at }) d (closing x)
-    closed-end q e (advanced {t = []} p) = stopped (record { good = refl; within = p.within; left = p.left })
-    closed-end q e (advanced {t = y ∷ t} p) = absurd (omega (arith, ap length p.left, length-drop r.at s))
-    closed-end q e (stopped p) = never r.ok q p.good
-
-pub closed-count : {s b c d : List ℕ} {from : ℕ} {r u : Step} {x : Result Totals} → r.ok ≡ true → r.at < length s → Says s from zeros r b x
-    → ((m : Totals) → Counted b m → from < r.at → Says s from c u d (counting m (drop (r.at + 1) s))) → Says s from c u d (closing x)
-closed-count {s} {r = r} q l (advanced {t = []} p) k = absurd (omega (arith, ap length p.left, length-drop r.at s))
-closed-count {s} {r = r} q l (advanced {m = m} {t = y ∷ t} p) k =
-    let v : t ≡ drop (r.at + 1) s = ap (drop 1) p.left ∙ drop-drop 1 r.at s in
-    rw v (k m (from-zeros m p.adds) p.further)
-closed-count {r = r} q l (stopped p) k = never r.ok q p.good
-
--- THE LOOP OVER ITEMS: what is read from `at` on, added to a, is what is read from `from` on, added to a₀
-pub record Going (s : List ℕ) (from depth : ℕ) (a₀ : List ℕ) (at : ℕ) (a : List ℕ) : Type 0 where
-  pub within : at ≤ length s
-  pub fuel : ℕ
-  pub enough : length s ≤ at + fuel
-  pub whole : (r : Step) (b : List ℕ) → Says s at a r b (then (items (read_item depth) fuel) (read_item depth (drop at s))) → Says s from a₀ r b (read_items depth (drop from s))
-
-pub going_start : (s : List ℕ) (from depth : ℕ) (a : List ℕ) → from ≤ length s → Going s from depth a from a
-unfolding read_items
-going_start s from depth a l = record { within = l; fuel = length (drop from s); enough = omega (arith, length-drop from s); whole = λ r b p. p }
-
--- the turn that is stuck, the last one, and one with more to come
-module _ {s : List ℕ} {from depth : ℕ} {a₀ : List ℕ} {at : ℕ} {a : List ℕ} (g : Going s from depth a₀ at a) {r : Step} {b : List ℕ} (p : Says s at a r b (read_item depth (drop at s))) where
-  pub going-stuck : r.ok ≡ false → Says s from a₀ r b (read_items depth (drop from s))
-  going-stuck q = g.whole r b (then-stuck (items (read_item depth) g.fuel) q p)
-
-  pub going_end : true ≡ ends (drop r.at s) → Says s from a₀ r b (read_items depth (drop from s))
-  going_end e = g.whole r b (then-end (items (read_item depth) g.fuel) e p)
-
-  pub going_on : r.ok ≡ true → false ≡ ends (drop r.at s) → (at < r.at) × Going s from depth a₀ r.at b
-  going_on q e = go p g.fuel g.enough g.whole
+-- A GROUP, whose formula is t behind the bracket: stuck in it, or closed where it ends
+module _ {t : List ℕ} {u : Bor (List ℕ)} {g h : Tally} {x : reader.Result Totals} (v : List ℕ) (l : length t ≤ length v) where
+  pub group-stuck : (a b : Tally) → Says t g (Err u) h x → Says v a (Err u) b (closing x)
+  group-stuck a b f = go x f
     where
-      go : {x : Result Totals} → Says s at a r b x → (k : ℕ) → length s ≤ at + k
-          → ((u : Step) (c : List ℕ) → Says s at a u c (then (items (read_item depth) k) x) → Says s from a₀ u c (read_items depth (drop from s))) → (at < r.at) × Going s from depth a₀ r.at b
-      go (advanced f) zero l w = absurd (omega (arith, f.further, f.within))
-      go (advanced {m = m} {t = t} f) (suc k) l w = (
-        f.further,
+      go : (x : reader.Result Totals) → Says t g (Err u) h x → Says v a (Err u) b (closing x)
+      go (ok m w) f = absurd f.found
+      go (stuck w) f = record { found = record { within = omega (arith, f.found.within); left = f.found.left } }
+
+  pub group-closed : {a b : Tally} {r : Left} → Counted g nothing → Says t g (Ok u) h x → Closes u.now h a r b → Says v a r b (closing x)
+  group-closed {a} {b} {r} c f k = go x f
+    where
+      go : (x : reader.Result Totals) → Says t g (Ok u) h x → Says v a r b (closing x)
+      go (ok m w) f = rw f.found.left (says-longer v (omega (arith, f.found.further)) (k.closes m (from-nothing m c f.found.adds)))
+      go (stuck w) f = absurd f.found
+
+-- at the bracket, with a count behind it
+pub closed-count : {g a b : Tally} {u : Bor (List ℕ)} {n : Multiple} (t w : List ℕ) → 1 ≤ length t → w ≡ take (length t - 1) (drop 1 t) → (n ≡ multiple_at w) × (n.size ≤ length w)
+    → ((m : Totals) → Counted g m → Adds a (times m n.value) b) → u.now ≡ take (length w - n.size) (drop n.size w) → Closes t g a (Ok u) b
+closed-count [] w l q k add d = absurd (omega arith)
+closed-count {n} (y ∷ t) w l q k add d =
+    let behind : w ≡ t = q ∙ rest 1 (y ∷ t) in
+    record { closes = λ m c. rw (← behind) (says-counted w m n (omega (arith, ap length behind)) k d (add m c)) }
+
+-- THE LOOP OVER ITEMS: what is read of t, added to a, is what is read of t₀, added to a₀
+pub record Going (t₀ : List ℕ) (depth : ℕ) (a₀ : Tally) (t : List ℕ) (a : Tally) : Type 0 where
+  pub fuel : ℕ
+  pub enough : length t ≤ fuel
+  pub whole : (r : Left) (b : Tally) → Says t a r b (then (items (read_item depth) fuel) (read_item depth t)) → Says t₀ a₀ r b (read_items depth t₀)
+
+pub going_start : (t : List ℕ) (depth : ℕ) (a : Tally) → Going t depth a t a
+unfolding read_items
+going_start t depth a = record { fuel = length t; enough = omega arith; whole = λ r b p. p }
+
+-- a turn with more to come
+module _ {t₀ : List ℕ} {depth : ℕ} {a₀ : Tally} {t : List ℕ} {a : Tally} (g : Going t₀ depth a₀ t a) where
+  pub going_on : {u : Bor (List ℕ)} {b : Tally} → false ≡ ends u.now → Says t a (Ok u) b (read_item depth t) → (length u.now < length t) × Going t₀ depth a₀ u.now b
+  going_on {u} {b} e f = go (read_item depth t) f g.fuel g.enough g.whole
+    where
+      go : (x : reader.Result Totals) → Says t a (Ok u) b x → (k : ℕ) → length t ≤ k
+          → ((r : Left) (c : Tally) → Says t a r c (then (items (read_item depth) k) x) → Says t₀ a₀ r c (read_items depth t₀)) → (length u.now < length t) × Going t₀ depth a₀ u.now b
+      go (ok m w) f zero l q = absurd (omega (arith, f.found.further))
+      go (ok m w) f (suc k) l q = (
+        f.found.further,
         record {
-          within = f.within;
           fuel = k;
-          enough = omega (arith, f.further);
-          whole = λ u c y. w u c (rw (then-goes (items (read_item depth) (suc k)) m t (sym (e ∙ ap ends (sym f.left))))
-              (says-more {x = items (read_item depth) (suc k) t} m f.adds (says-from {from = r.at} at (omega (arith, f.further)) (rw f.left y))));
+          enough = omega (arith, f.found.further);
+          whole = λ r c y. q r c (rw (then-goes (items (read_item depth) (suc k)) m w (sym (e ∙ ap ends (sym f.found.left))))
+              (says-more {x = items (read_item depth) (suc k) w} m f.found.adds (says-longer {t = u.now} t (omega (arith, f.found.further)) (rw f.found.left y))));
         },
       )
-      go (stopped f) k l w = never r.ok q f.good
+      go (stuck w) f k l q = absurd f.found
 
--- AN ITEM, by the byte d there: an element; stuck at the bracket of a group that may not be nested here; or a group
-module _ (s : List ℕ) (p depth d : ℕ) (e : d ≡ get_or s p 0) where
-  pub item-element : (d ≡ 40 → ⊥) → read_item depth (drop p s) ≡ read_element (drop p s)
-  item-element n = item-other depth (drop p s) (rw (byte-here s p, ← e) (ne_eqb d 40 n))
+-- AN ITEM, by its first byte d: an element; stuck at the bracket of a group that may not be nested here; or a group
+module _ (t : List ℕ) (depth d : ℕ) (e : d ≡ at t 0) where
+  pub item-element : (d ≡ 40 → ⊥) → read_item depth t ≡ read_element t
+  item-element n = item-other depth t (rw (← e) (ne_eqb d 40 n))
 
-  pub item-deepest : d ≡ 40 → depth ≡ 0 → read_item depth (drop p s) ≡ stuck (drop p s)
+  pub item-deepest : d ≡ 40 → depth ≡ 0 → read_item depth t ≡ stuck t
   unfolding read_item symbol_of
-  item-deepest q n = rw (n, byte-here s p, ← e, q)
+  item-deepest q n = rw (n, ← e, q)
 
-  pub item-group : d ≡ 40 → (depth ≡ 0 → ⊥) → read_item depth (drop p s) ≡ closing (read_items (depth - 1) (drop (p + 1) s))
+  pub item-group : d ≡ 40 → (depth ≡ 0 → ⊥) → read_item depth t ≡ closing (read_items (depth - 1) (take (length t - 1) (drop 1 t)))
   item-group q n =
       let deeper : depth ≡ suc (depth - 1) = omega arith in
-      ap (λ (k : ℕ). read_item k (drop p s)) deeper ∙ item-open (depth - 1) (drop p s) (rw (byte-here s p, ← e) (eq-eqb d 40 q)) ∙ rw (drop-drop 1 p s)
+      ap (λ (k : ℕ). read_item k t) deeper ∙ item-open (depth - 1) t (rw (← e) (eq-eqb d 40 q)) ∙ rw (rest 1 t)
+
+pub not-empty : (t : List ℕ) (d : ℕ) → d ≡ at t 0 → d ≡ 40 → 1 ≤ length t
+not-empty [] d e q = absurd (omega arith)
+not-empty (y ∷ t) d e q = omega arith

@@ -1,17 +1,19 @@
 -- The reader of formulas as a function on texts.
 use Rattle.std.specs.Prelude.{Bool, true, false, cond, List, [], ◌∷◌, ℕ, zero, suc, ◌+◌, ◌*◌, ◌-◌, eqb, length, drop}
-use Rattle.std.proofs.Math.Option.{Option, some, none}
+use Rattle.std.specs.Prelude.{Option, Some, None}
 use Rattle.text.specs.Bytes.{byte, same}
 use Rattle.text.specs.Decimal.{digit_from}
 use Rattle.text.specs.Reader.{at, Result, ok, stuck}
 use Rattle.elements.specs.declared.Element.{Element}
 use Rattle.elements.specs.Elements.{elements, symbol, Totals, one, times, plus}
+use Rattle.formula.specs.declared.Symbol.{Symbol}
+use Rattle.formula.specs.declared.Symbol.TheVariants.{Named, Half, Absent}
 use Rattle.formula.specs.declared.Multiple.{Multiple}
 
 -- SYMBOLS. The first of some elements that passes a test.
 abbrev pub find : (Element → Bool) → List Element → Option Element
-find test [] = none
-find test (e ∷ es) = cond (test e) (some e) (find test es)
+find test [] = None
+find test (e ∷ es) = cond (test e) (Some e) (find test es)
 
 -- the element whose symbol is s, and one whose symbol begins with b
 abbrev pub with_symbol : List ℕ → Option Element
@@ -20,18 +22,12 @@ with_symbol s = find (λ e. same s (symbol e)) elements
 abbrev pub with_letter : ℕ → Option Element
 with_letter b = find (λ e. eqb b (at (symbol e) 0)) elements
 
--- what two bytes begin: the symbol of an element, half a symbol, or nothing
-pub data Symbol : Type 0 where
-  named : Element → Symbol
-  half : Symbol
-  absent : Symbol
-
 -- the element whose symbol is both bytes, else the one whose symbol is the first; half a symbol where one begins so
 abbrev pub symbol_by : Option Element → Option Element → Option Element → Symbol
-symbol_by (some e) first begun = named e
-symbol_by none (some e) begun = named e
-symbol_by none none (some e) = half
-symbol_by none none none = absent
+symbol_by (Some e) first begun = Named e
+symbol_by None (Some e) begun = Named e
+symbol_by None None (Some e) = Half
+symbol_by None None None = Absent
 
 unfoldable pub symbol_of : ℕ → ℕ → Symbol
 symbol_of b c = symbol_by (with_symbol (b ∷ c ∷ [])) (with_symbol (b ∷ [])) (with_letter b)
@@ -62,9 +58,9 @@ counting m t = ok (times m (multiple_at t).value) (drop (multiple_at t).size t)
 
 -- an element with a count
 abbrev pub symbolic : List ℕ → Symbol → Result Totals
-symbolic t (named e) = counting (one e) (drop (length (symbol e)) t)
-symbolic t half = stuck (drop 1 t)
-symbolic t absent = stuck t
+symbolic t (Named e) = counting (one e) (drop (length (symbol e)) t)
+symbolic t Half = stuck (drop 1 t)
+symbolic t Absent = stuck t
 
 abbrev pub symbol_at : List ℕ → Symbol
 symbol_at t = symbol_of (at t 0) (at t 1)

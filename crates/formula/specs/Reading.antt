@@ -46,6 +46,11 @@ pub data Outcomes (t : List ℕ) : Outcome Atoms → Type 0 where
   -- a formula with at most 200 atoms of each element
   counted : length t ≤ 256 → (f : Formula 8) → Reads t f → ((x : Element) → totals f x ≤ 200) → Outcomes t (answered (atoms (totals f)))
 
+-- o is the outcome of reading t, and the only one
+pub record OnlyOutcome (t : List ℕ) (o : Outcome Atoms) : Type 0 where
+  pub right : Outcomes t o
+  pub only : (u : Outcome Atoms) → Outcomes t u → u ≡ o
+
 -- r shows the outcome of reading t, which is the only one
 pub record ByGrammar (t : List ℕ) (r : FormulaRead) : Type 0 where
   pub outcome : Outcome Atoms

@@ -2,289 +2,256 @@
 // A formula reader calls an item reader, which calls the formula reader on a bracket, one level less deep.
 #![tactic(auto)]
 
-ghost use Rattle.std.specs.Prelude.{◌≡◌, cond, not, ◌||◌, [], ◌∷◌, ℕ, ◌+◌, ◌*◌, ◌≤◌, ltb, length, drop};
-ghost use Rattle.std.proofs.Math.Option.{none};
-ghost use Rattle.answer.specs.Outcome.{refused, refusal};
-ghost use Rattle.text.specs.Reader.{Result};
-ghost use Rattle.elements.specs.declared.Element.{Element};
-ghost use Rattle.elements.specs.Elements.{Totals, number, one, times, atoms as atoms_of};
-ghost use Rattle.formula.specs.Reader.{with_symbol, with_letter, symbol_by, symbol_of, multiple_of, multiple_at, ends, read_element, closing, read_item, read_items};
-ghost use Rattle.formula.specs.Reading.{shown_formula, at_most200, formula_read, ByGrammar};
-ghost use Rattle.formula.specs.Internal.{number_of, spelling, cap, Counted, zeros, Adds, Says};
+ghost use Rattle.std.specs.Prelude.{◌≡◌, [], ◌∷◌, ℕ, ◌+◌, ◌*◌, ◌≤◌, length};
+ghost use Rattle.answer.specs.Outcome.{told};
+ghost use Rattle.elements.specs.Elements.{Totals, nothing, one, times, atoms as atoms_of};
+ghost use Rattle.formula.specs.Reader.{symbol_of, symbol_at, multiple_of, multiple_at, ends, read_element, closing, read_item, read_items};
+ghost use Rattle.formula.specs.Reading.{shown_formula, at_most200, reading, OnlyOutcome};
+ghost use Rattle.formula.specs.Internal.{begun, digit_value, cap, Counted, Adds, Says, Closes};
 
-use answer::Refusal;
-use elements::{Atoms, each, first_above};
+use answer::{Reason, Refusal, Refused};
+use elements::{Atoms, Element, each, first_above, number_of};
 use text::{byte_at, is_digit_from};
 
-// A formula that was read, or a refusal and zeros.
+// A formula that was read, or a refusal and zeros: as C is shown it.
 #[repr(C)]
-#[derive(Clone, Copy)]
+#[derive(Clone, Copy, Debug, PartialEq, Eq)]
 pub struct FormulaRead {
     pub refusal: Refusal,
     pub atoms: Atoms,
 }
 
-// What two bytes begin: the number of the element whose symbol it is, and the symbol's size; 0 where it is none, and the size of what begins one.
-#[derive(Clone, Copy)]
-struct Spelling {
-    number: u64,
-    size: usize,
+impl From<Result<Atoms, Refused>> for FormulaRead {
+    ghost from_gives = { λ read f. f ≡ shown_formula (told read) };
+
+    fn from(read: Result<Atoms, Refused>) -> FormulaRead {
+        FormulaRead {
+            refusal: Refusal::of(read),
+            atoms: read.unwrap_or(each(0)),
+        }
+    }
 }
 
-// An optional count: its value, 1 where none is written, and the number of its digits.
+// What two bytes begin: the symbol of an element, half a symbol, or nothing.
+#[derive(Clone, Copy)]
+enum Symbol {
+    Named(Element),
+    Half,
+    Absent,
+}
+
+// An optional count, as the definition `multiple` has it: its value, 1 where none is written, and the number of its digits.
 #[derive(Clone, Copy)]
 struct Multiple {
     value: u64,
     size: usize,
 }
 
-// Whether reading goes on: the position behind what was read, or that where reading is stuck.
-#[derive(Clone, Copy)]
-struct Step {
-    ok: bool,
-    at: usize,
-}
-
-fn number_if(test: bool, number: u64) -> u64
-    ensures { result ≡ cond test number 0 }
+#[tactic(auto, unfolding(crate::specs::Reader::symbol_of))]
+fn symbol_of(b: u8, c: u8) -> Symbol
+    ensures { result ≡ symbol_of b c }
 {
-    if test { number } else { 0 }
-}
-
-// The number of the element whose symbol is two bytes, 0 where there is none.
-fn two_letters(b: u8, c: u8) -> u64
-    ensures { result ≡ number_of (with_symbol (b ∷ c ∷ [])) }
-{
-    match c {
-        b'l' => number_if(b == b'C', 8),
-        b'r' => number_if(b == b'B', 9),
-        b'i' => number_if(b == b'S', 10),
-        _ => 0,
+    match (b, c) {
+        (b'C', b'l') => Symbol::Named(Element::Chlorine),
+        (b'B', b'r') => Symbol::Named(Element::Bromine),
+        (b'S', b'i') => Symbol::Named(Element::Silicon),
+        (b'C', _) => Symbol::Named(Element::Carbon),
+        (b'H', _) => Symbol::Named(Element::Hydrogen),
+        (b'O', _) => Symbol::Named(Element::Oxygen),
+        (b'N', _) => Symbol::Named(Element::Nitrogen),
+        (b'S', _) => Symbol::Named(Element::Sulfur),
+        (b'P', _) => Symbol::Named(Element::Phosphorus),
+        (b'F', _) => Symbol::Named(Element::Fluorine),
+        (b'B', _) => Symbol::Half,
+        _ => Symbol::Absent,
     }
 }
 
-// What the byte b begins where the next byte makes no symbol with it.
-fn one_letter(b: u8) -> Spelling
-    ensures { result ≡ spelling (symbol_by none (with_symbol (b ∷ [])) (with_letter b)) }
+// The value of the byte b, where it is a digit that is not below `low`.
+#[tactic(auto, unfolding(text::specs::Decimal::digit_from))]
+fn digit(low: u8, b: u8) -> Option<u8>
+    ensures { result ≡ digit_value low b }
 {
-    match b {
-        b'C' => Spelling { number: 1, size: 1 },
-        b'H' => Spelling { number: 2, size: 1 },
-        b'O' => Spelling { number: 3, size: 1 },
-        b'N' => Spelling { number: 4, size: 1 },
-        b'S' => Spelling { number: 5, size: 1 },
-        b'P' => Spelling { number: 6, size: 1 },
-        b'F' => Spelling { number: 7, size: 1 },
-        b'B' => Spelling { number: 0, size: 1 },
-        _ => Spelling { number: 0, size: 0 },
+    if is_digit_from(low, b) {
+        Some(b - b'0')
+    } else {
+        None
     }
-}
-
-fn symbol_of(b: u8, c: u8) -> Spelling
-    ensures { result ≡ spelling (symbol_of b c) }
-{
-    let number = two_letters(b, c);
-    if 0 < number {
-        return Spelling { number, size: 2 };
-    }
-    one_letter(b)
 }
 
 // The count that stands in the three bytes a, b, c.
+#[tactic(auto, unfolding(crate::specs::Reader::multiple_of))]
 fn multiple_of(a: u8, b: u8, c: u8) -> Multiple
     ensures { result ≡ multiple_of a b c }
 {
-    if !is_digit_from(1, a) {
+    let Some(x) = digit(1, a) else {
         return Multiple { value: 1, size: 0 };
-    }
-    let x = (a - b'0') as u64;
-    if !is_digit_from(0, b) {
-        return Multiple { value: x, size: 1 };
-    }
-    let y = x * 10 + (b - b'0') as u64;
-    if !is_digit_from(0, c) {
-        return Multiple { value: y, size: 2 };
-    }
-    Multiple {
-        value: y * 10 + (c - b'0') as u64,
-        size: 3,
+    };
+    let Some(y) = digit(0, b) else {
+        return Multiple {
+            value: x as u64,
+            size: 1,
+        };
+    };
+    let tens = x as u64 * 10 + y as u64;
+    match digit(0, c) {
+        Some(z) => Multiple {
+            value: tens * 10 + z as u64,
+            size: 3,
+        },
+        None => Multiple {
+            value: tens,
+            size: 2,
+        },
     }
 }
 
-// The count at a position.
-fn multiple_at(s: &[u8], at: usize) -> Multiple
-    requires { at ≤ length s.now }
-    ensures { (result ≡ multiple_at (drop at s.now)) × (at + result.size ≤ length s.now) }
+// The symbol at the beginning of a text.
+#[tactic(auto, using(crate::proofs::Heads::begun_within))]
+fn symbol_at(t: &[u8]) -> Symbol
+    ensures { (symbol_at t.now ≡ result) × (begun result ≤ length t.now) }
 {
-    multiple_of(byte_at(s, at), byte_at(s, at + 1), byte_at(s, at + 2))
+    symbol_of(byte_at(t, 0), byte_at(t, 1))
 }
 
-fn capped(n: u64) -> u64
-    ensures { result ≡ cap n }
+// The count at the beginning of a text.
+#[tactic(auto, using(crate::proofs::Heads::size_within))]
+fn multiple_at(t: &[u8]) -> Multiple
+    ensures { (result ≡ multiple_at t.now) × (result.size ≤ length t.now) }
 {
-    if n < 201 { n } else { 201 }
+    multiple_of(byte_at(t, 0), byte_at(t, 1), byte_at(t, 2))
 }
 
 // a + b n, and 201 for all from 201 up.
 fn capped_sum(a: u64, b: u64, n: u64) -> u64
     ensures { result ≡ cap (a + b * n) }
 {
-    capped(capped(a) + capped(b) * capped(n))
+    a.saturating_add(b.saturating_mul(n)).min(201)
 }
 
-// Adds n atoms of the element numbered k to the counts.
-fn add_element(counts: &mut [u64; 10], k: u64, n: u64)
-    requires { (1 ≤ k) × (k ≤ 10) }
-    ensures { (e : Element) → k ≡ number e → Adds counts.old (times (one e) n) counts.new }
-{
-    let i = (k - 1) as usize;
-    counts[i] = capped_sum(counts[i], 1, n);
+// Atom counts as the reader holds them, indexed by element number less one: all from 201 up are 201. Sharing methods with `Atoms`, whose counts are exact, would
+// be no plainer.
+#[derive(Clone, Copy)]
+struct Tally {
+    count: [u64; 10],
 }
 
-// Adds n times the group's counts to the counts.
-fn add_group(counts: &mut [u64; 10], group: [u64; 10], n: u64)
-    ensures { (m : Totals) → Counted group m → Adds counts.old (times m n) counts.new }
-{
-    let mut i = 0;
-    while i < 10 {
-        counts[i] = capped_sum(counts[i], group[i], n);
-        i += 1;
+impl Tally {
+    // No atoms.
+    fn new() -> Tally
+        ensures { Counted result nothing }
+    {
+        Tally { count: [0; 10] }
     }
-}
 
-// The text ends at a position, or a group does.
-fn ends_at(s: &[u8], at: usize) -> bool
-    requires { at ≤ length s.now }
-    ensures { result ≡ ends (drop at s.now) }
-{
-    if at == s.len() {
-        return true;
+    // Adds n atoms of an element.
+    fn add_element(&mut self, e: Element, n: u64)
+        ensures { Adds self.old (times (one e) n) self.new }
+    {
+        let i = number_of(e) as usize - 1;
+        self.count[i] = capped_sum(self.count[i], 1, n);
     }
-    s[at] == b')'
-}
 
-// The element at a position with its count, added to the counts.
-fn element_at(s: &[u8], at: usize, counts: &mut [u64; 10]) -> Step
-    requires { at ≤ length s.now }
-    ensures { Says s.now at counts.old result counts.new (read_element (drop at s.now)) }
-{
-    let symbol = symbol_of(byte_at(s, at), byte_at(s, at + 1));
-    let behind = at + symbol.size;
-    if symbol.number == 0 {
-        return Step {
-            ok: false,
-            at: behind,
-        };
+    // Adds n times the group.
+    fn add_group(&mut self, group: Tally, n: u64)
+        ensures { (m : Totals) → Counted group m → Adds self.old (times m n) self.new }
+    {
+        for (i, total) in self.count.iter_mut().enumerate() {
+            *total = capped_sum(*total, group.count[i], n);
+        }
     }
-    let n = multiple_at(s, behind);
-    add_element(counts, symbol.number, n.value);
-    Step {
-        ok: true,
-        at: behind + n.size,
+
+    // The atom counts, unless one exceeds 200.
+    fn checked(self) -> Result<Atoms, Refused>
+        ensures { (m : Totals) → Counted self m → told result ≡ at_most200 (atoms_of m) }
+    {
+        let Tally { count } = self;
+        let atoms = Atoms { count };
+        if let Some(over) = first_above(each(200), atoms) {
+            return Err(Reason::CountTooLarge.at(over));
+        }
+        Ok(atoms)
     }
 }
 
-// The end of a group whose formula was read as inner: its bracket and its count, added to the counts.
-fn closed(s: &[u8], inner: Step, group: [u64; 10], counts: &mut [u64; 10]) -> Step
-    requires { inner.at ≤ length s.now }
-    ensures { (from : ℕ) (x : Result Totals) → Says s.now from zeros inner group x → Says s.now from counts.old result counts.new (closing x) }
+// The text ends, or a group does.
+fn ends(t: &[u8]) -> bool
+    ensures { result ≡ ends t.now }
 {
-    let end = inner.at;
-    if !inner.ok {
-        return inner;
-    }
-    if end == s.len() {
-        return Step { ok: false, at: end };
-    }
-    let n = multiple_at(s, end + 1);
-    add_group(counts, group, n.value);
-    Step {
-        ok: true,
-        at: end + 1 + n.size,
-    }
+    matches!(t, [] | [b')', ..])
 }
 
-// The item at a position, its groups nested at most depth deep, added to the counts.
-#[cycle(formula_at_item_at)]
-fn item_at(s: &[u8], at: usize, depth: u64, counts: &mut [u64; 10]) -> Step
-    requires { at ≤ length s.now }
-    ensures { Says s.now at counts.old result counts.new (read_item depth (drop at s.now)) }
+// What is left of a text behind its beginning that was read, else what is left where reading is stuck.
+type Rest<'a> = Result<&'a [u8], &'a [u8]>;
+
+// Reads an element with its count, and adds it to the tally.
+fn element<'a>(t: &'a [u8], tally: &mut Tally) -> Rest<'a>
+    ensures { Says t.now tally.old result tally.new (read_element t.now) }
 {
-    if byte_at(s, at) != b'(' {
-        return element_at(s, at, counts);
+    let e = match symbol_at(t) {
+        Symbol::Named(e) => e,
+        Symbol::Half => return Err(&t[1..]),
+        Symbol::Absent => return Err(t),
+    };
+    let behind = &t[e.symbol().len()..];
+    let n = multiple_at(behind);
+    tally.add_element(e, n.value);
+    Ok(&behind[n.size..])
+}
+
+// Reads what stands behind the formula of a group, its bracket and its count, and adds the group to the tally.
+fn closed<'a>(t: &'a [u8], group: Tally, tally: &mut Tally) -> Rest<'a>
+    ensures { Closes t.now group tally.old result tally.new }
+{
+    let [_, behind @ ..] = t else {
+        return Err(t);
+    };
+    let n = multiple_at(behind);
+    tally.add_group(group, n.value);
+    Ok(&behind[n.size..])
+}
+
+// Reads an item, its groups nested at most depth deep, and adds it to the tally.
+#[cycle(formula_item)]
+fn item<'a>(t: &'a [u8], depth: u64, tally: &mut Tally) -> Rest<'a>
+    ensures { Says t.now tally.old result tally.new (read_item depth t.now) }
+{
+    if byte_at(t, 0) != b'(' {
+        return element(t, tally);
     }
     if depth == 0 {
-        return Step { ok: false, at };
+        return Err(t);
     }
-    let mut group = [0u64; 10];
-    let inner = formula_at(s, at + 1, depth - 1, &mut group);
-    closed(s, inner, group, counts)
+    let mut group = Tally::new();
+    let end = formula(&t[1..], depth - 1, &mut group)?;
+    closed(end, group, tally)
 }
 
-// The formula from a position to the end of the text or of the group, its groups nested at most depth deep, added to the counts.
-#[cycle(formula_at_item_at)]
-fn formula_at(s: &[u8], from: usize, depth: u64, counts: &mut [u64; 10]) -> Step
-    requires { from ≤ length s.now }
-    ensures { Says s.now from counts.old result counts.new (read_items depth (drop from s.now)) }
+// Reads a formula to the end of the text or of the group, its groups nested at most depth deep, and adds it to the tally.
+#[cycle(formula_item)]
+fn formula<'a>(t: &'a [u8], depth: u64, tally: &mut Tally) -> Rest<'a>
+    ensures { Says t.now tally.old result tally.new (read_items depth t.now) }
 {
-    let mut at = from;
+    let mut left = t;
     loop {
-        let step = item_at(s, at, depth, counts);
-        if !step.ok {
-            return step;
+        left = item(left, depth, tally)?;
+        if ends(left) {
+            return Ok(left);
         }
-        at = step.at;
-        if ends_at(s, at) {
-            return step;
-        }
-    }
-}
-
-// Whether the reader stopped before the end of a text of n bytes.
-fn is_left(r: Step, n: usize) -> bool
-    ensures { result ≡ (not r.ok || ltb r.at n) }
-{
-    if !r.ok {
-        return true;
-    }
-    r.at < n
-}
-
-fn refused_formula(number: u64, place: u64) -> FormulaRead
-    ensures { result ≡ shown_formula (refused (refusal number place)) }
-{
-    FormulaRead {
-        refusal: Refusal { number, place },
-        atoms: each(0),
-    }
-}
-
-// The atom counts, unless one exceeds 200.
-fn judge(atoms: Atoms) -> FormulaRead
-    ensures { (m : Totals) → Counted atoms.count m → result ≡ shown_formula (at_most200 (atoms_of m)) }
-{
-    let over = first_above(each(200), atoms);
-    if 0 < over {
-        return refused_formula(answer::COUNT_TOO_LARGE, over);
-    }
-    FormulaRead {
-        refusal: answer::NOT_REFUSED,
-        atoms,
     }
 }
 
 // The atom counts of a formula text. Refusals 1, with the length of the longest beginning that begins a formula, and 2, with the lowest element above 200.
-pub fn read_formula(text: &[u8]) -> FormulaRead
-    ensures value { result ≡ formula_read text.now }
-    ensures grammar { ByGrammar text.now result }
+pub fn read_formula(text: &[u8]) -> Result<Atoms, Refused>
+    ensures value { told result ≡ reading text.now }
+    ensures grammar { OnlyOutcome text.now (told result) }
 {
     if 256 < text.len() {
-        return refused_formula(answer::NO_FORMULA, 256);
+        return Err(Reason::NoFormula.at(256));
     }
-    let mut count = [0u64; 10];
-    let r = formula_at(text, 0, 8, &mut count);
-    if is_left(r, text.len()) {
-        return refused_formula(answer::NO_FORMULA, r.at as u64);
+    let mut tally = Tally::new();
+    match formula(text, 8, &mut tally) {
+        Ok(left) if left.is_empty() => tally.checked(),
+        Ok(left) | Err(left) => Err(Reason::NoFormula.at((text.len() - left.len()) as u64)),
     }
-    judge(Atoms { count })
 }

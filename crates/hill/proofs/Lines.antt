@@ -1,57 +1,27 @@
 -- The pieces of a Hill text: an item by its count, its length, and the line that holds the items so far.
 use mathlib.Core.Path.{◌≡◌, refl, sym, ap, ◌∙◌}
-use mathlib.Core.Bool.{true}
 use mathlib.Core.List.{List, [], ◌∷◌, ◌++◌, map, append_assoc, append-nil}
 use Prim.Native.Nat.{ℕ, zero, suc, ◌+◌, ◌≤◌, ◌<◌}
 use native.Mathlib.Numerals.{add-one}
 use native.Mathlib.Omega.{arith}
-use borrow.Author.Tests.{eq-eqb, ne_eqb}
 use lib.Dec.{eqb}
 use lib.ListN.{length, take, get_or, length-append}
 use lib.Seq.{take-suc, take_all}
 use Rattle.answer.proofs.Tests.{choose}
 use Rattle.text.specs.Decimal.{decimal}
-use Rattle.text.specs.Internal.{Puts}
+use Rattle.text.specs.Internal.{Appends}
 use Rattle.text.proofs.Decimals.{decimal-short}
-use Rattle.text.proofs.Rooms.{puts_then, puts-starts}
 use Rattle.elements.specs.declared.Element.{Element}
-use Rattle.elements.specs.declared.Element.TheVariants.{Carbon, Hydrogen, Oxygen, Nitrogen, Sulfur, Phosphorus, Fluorine, Chlorine, Bromine, Silicon}
+use Rattle.elements.specs.declared.Element.TheVariants.{Carbon}
 use Rattle.elements.specs.declared.Atoms.{Atoms}
 use Rattle.elements.specs.Elements.{symbol, Totals, count}
 use Rattle.elements.specs.Internal.{AtMost200}
-use Rattle.hill.specs.Hill.{by_symbol, carbon_first, hill_order, hill_item, joined, hill_text, has, BySymbol}
-
--- the order, by the count of carbon
-pub order-without-carbon : (a : Atoms) → count a Carbon ≡ 0 → hill_order a ≡ by_symbol
-order-without-carbon a e = rw (eq-eqb (count a Carbon) 0 e)
-
-pub order-with-carbon : (a : Atoms) → 0 < count a Carbon → hill_order a ≡ carbon_first
-order-with-carbon a l = rw (ne_eqb (count a Carbon) 0 (λ e. omega arith))
-
--- the list by symbol is one
-pub by-symbol : BySymbol
-by-symbol = record { rises = refl; every = all }
-  where
-    all : (x : Element) → has by_symbol x ≡ true
-    all Carbon = refl
-    all Hydrogen = refl
-    all Oxygen = refl
-    all Nitrogen = refl
-    all Sulfur = refl
-    all Phosphorus = refl
-    all Fluorine = refl
-    all Chlorine = refl
-    all Bromine = refl
-    all Silicon = refl
+use Rattle.hill.specs.Hill.{hill_order, hill_item, joined, hill_text}
 
 order-ten : (a : Atoms) → length (hill_order a) ≡ 10
 order-ten a = choose (λ (es : List Element). length es ≡ 10) (eqb (count a Carbon) 0) (λ _. refl) (λ _. refl)
 
 -- an item by its count
-pub item-none : (e : Element) (n : ℕ) → n ≡ 0 → hill_item e n ≡ []
-item-none e zero z = refl
-item-none e (suc n) z = absurd (omega arith)
-
 pub item-one : (e : Element) (n : ℕ) → n ≡ 1 → hill_item e n ≡ symbol e
 item-one e zero z = absurd (omega arith)
 item-one e (suc zero) z = refl
@@ -97,25 +67,18 @@ line-snoc : (m : Totals) (es : List Element) (e : Element) → line m (es ++ e �
 line-snoc m [] e = append-nil (hill_item e (m e))
 line-snoc m (f ∷ es) e = ap (λ (w : List ℕ). hill_item f (m f) ++ w) (line-snoc m es e) ∙ sym (append_assoc (hill_item f (m f)) (line m es) (hill_item e (m e)))
 
--- the first i items, put into a room of 43 bytes
-module _ (a : Atoms) (room : List ℕ) where
-  pub record LineOf (bytes : List ℕ) (at i : ℕ) : Type 0 where
-    pub turns : i ≤ 10
-    pub puts : Puts room 0 (line (count a) (take i (hill_order a))) bytes at
+-- the line of the first i elements, and the item of the next one appended to it
+module _ (a : Atoms) (few : AtMost200 a) (i : ℕ) {l new : List ℕ} (held : l ≡ line (count a) (take i (hill_order a))) where
+  pub line-more : i < 10 → Appends 43 l (hill_item (get_or (hill_order a) i Carbon) (count a (get_or (hill_order a) i Carbon))) new
+      → new ≡ line (count a) (take (i + 1) (hill_order a))
+  line-more h g =
+      let e = get_or (hill_order a) i Carbon in
+      let item = hill_item e (count a e) in
+      let next : line (count a) (take (i + 1) (hill_order a)) ≡ line (count a) (take i (hill_order a)) ++ item =
+      rw (add-one i, take-suc (hill_order a) i Carbon (omega (arith, order-ten a))) (line-snoc (count a) (take i (hill_order a)) e) in
+      let short : length (line (count a) (take i (hill_order a))) + length item ≤ 43 = omega (arith, first_short a few (i + 1), ap length next, length-append (line (count a) (take i (hill_order a))) item) in
+      g.gives (rw held short) ∙ rw held (sym next)
 
-  module _ (size : length room ≡ 43) (few : AtMost200 a) {bytes : List ℕ} {at i : ℕ} (h : LineOf bytes at i) where
-    held : (length bytes ≡ length room) × (at ≤ length room) × (take at bytes ≡ line (count a) (take i (hill_order a)))
-    held = puts-starts (omega (arith, first_short a few i)) h.puts
-
-    pub line-sized : length bytes ≡ 43
-    line-sized = held.0 ∙ size
-
-    pub line-more : {out : List ℕ} {r : ℕ} → i < 10 → Puts bytes at (hill_item (get_or (hill_order a) i Carbon) (count a (get_or (hill_order a) i Carbon))) out r → LineOf out r (i + 1)
-    line-more l g = record {
-      turns = omega arith;
-      puts = rw (add-one i, take-suc (hill_order a) i Carbon (omega (arith, order-ten a)), line-snoc (count a) (take i (hill_order a)) (get_or (hill_order a) i Carbon)) (puts_then h.puts g);
-    }
-
-    pub line-done : 10 ≤ i → (length bytes ≡ 43) × (at ≤ 43) × (take at bytes ≡ hill_text a)
-    unfolding hill_text
-    line-done l = (line-sized, omega (arith, held.1), held.2 ∙ ap (line (count a)) (take_all i (hill_order a) (omega (arith, order-ten a))))
+pub line-done : (a : Atoms) (i : ℕ) {l : List ℕ} → l ≡ line (count a) (take i (hill_order a)) → 10 ≤ i → l ≡ hill_text a
+unfolding hill_text
+line-done a i held h = held ∙ ap (line (count a)) (take_all i (hill_order a) (omega (arith, order-ten a)))

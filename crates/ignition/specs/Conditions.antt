@@ -1,11 +1,10 @@
 -- Both questions as a condition in whole numbers, level ≤ (slope · (t + 273) + base) · p with t in hundredths of a degree.
 use Rattle.std.specs.Prelude.{ℕ, ◌*◌}
-use Rattle.answer.specs.Outcome.{Outcome, answered, refusal_of, value_of, and_then}
+use Rattle.answer.specs.Outcome.{Outcome, answered, and_then}
 use Rattle.elements.specs.declared.Atoms.{Atoms}
 use Rattle.curve.specs.declared.Condition.{Condition}
 use Rattle.curve.specs.Smallest.{Test}
 use Rattle.curve.specs.Condition.{test_of}
-use Rattle.ignition.specs.declared.Asked.{Asked}
 use Rattle.ignition.specs.Questions.{threshold, with_limit, with_oxygen}
 
 -- 1013 φ ≤ 100 p, φ in hundredths of a percent
@@ -20,14 +19,7 @@ abbrev pub by_product : ℕ → ℕ → ℕ → Condition
 by_product n diffusion q = record { slope = diffusion * q; base = 0; level = n * 4000000000 }
 
 abbrev pub flash_condition : ℕ → Atoms → ℕ → Outcome Condition
-flash_condition m a diffusion = with_oxygen m a diffusion (by_product (threshold m) diffusion)
-
--- as it is answered: with a refusal all is 0
-abbrev pub no_condition : Condition
-no_condition = record { slope = 0; base = 0; level = 0 }
-
-abbrev pub shown_condition : Outcome Condition → Asked
-shown_condition o = record { refusal = refusal_of o; condition = value_of no_condition o }
+flash_condition m a diffusion = with_oxygen m a diffusion (λ k. by_product (threshold k) diffusion)
 
 -- the test that it is
 abbrev pub tested_by : Outcome Condition → Outcome Test

@@ -2,144 +2,101 @@
 #![tactic(auto)]
 
 ghost use Rattle.std.specs.Prelude.{◌≡◌, ◌≤◌};
-ghost use Rattle.answer.specs.Outcome.{refused, answered, refusal, shown_temperature};
+ghost use Rattle.answer.specs.Outcome.{told};
 ghost use Rattle.curve.specs.Curve.{curve, Sound};
 ghost use Rattle.ignition.specs.Questions.{threshold, purpose_of, limit_test, flash_test, lower_temperature_limit, flash_by_curve};
-ghost use Rattle.ignition.specs.Conditions.{limit_condition, flash_condition, shown_condition, tested_by};
-ghost use Rattle.ignition.specs.Internal.{put_to_curve};
+ghost use Rattle.ignition.specs.Conditions.{limit_condition, flash_condition, tested_by};
 
-use answer::{Refusal, Temperature, is_outside, refused_temperature};
+use answer::{PointMethod, Reason, Refused, is_outside};
 use blend::FIT_TEMPERATURE;
 use curve::{Condition, smallest_hundredth};
 use elements::Atoms;
 use limits::fuel_limits_at;
 use oxygen::{Purpose, admit};
 
-// A question as a condition, or a refusal and zeros.
-#[derive(Clone, Copy)]
-pub struct Asked {
-    pub refusal: Refusal,
-    pub condition: Condition,
-}
-
-// A question that is refused, and one that is a condition.
-fn not_asked(number: u64, place: u64) -> Asked
-    ensures { result ≡ shown_condition (refused (refusal number place)) }
-{
-    Asked {
-        refusal: Refusal { number, place },
-        condition: Condition {
-            slope: 0,
-            base: 0,
-            level: 0,
-        },
-    }
-}
-
-fn asked_for(condition: Condition) -> Asked
-    ensures { result ≡ shown_condition (answered condition) }
-{
-    Asked {
-        refusal: answer::NOT_REFUSED,
-        condition,
-    }
-}
-
 // The condition of the lower temperature limit of a fuel. Refusals 2, 3, 4 as for limits.
-pub fn limit_condition(fuel: Atoms) -> Asked
-    ensures value { result ≡ shown_condition (limit_condition fuel) }
+#[tactic(auto, unfolding(crate::specs::Questions::with_limit), using(crate::proofs::Tests::limit_tested))]
+pub fn limit_condition(fuel: Atoms) -> Result<Condition, Refused>
+    ensures value { told result ≡ limit_condition fuel }
     ensures as_printed { tested_by (limit_condition fuel) ≡ limit_test fuel }
 {
-    let limits = fuel_limits_at(fuel, FIT_TEMPERATURE);
-    let declined = limits.refusal;
-    if 0 < declined.number {
-        return not_asked(declined.number, declined.place);
-    }
-    asked_for(Condition {
+    let limits = fuel_limits_at(fuel, FIT_TEMPERATURE)?;
+    Ok(Condition {
         slope: 0,
         base: 100,
-        level: 1013 * limits.lower,
+        level: 1013 * limits.lower.value,
     })
 }
 
-fn threshold_of(method: u64) -> u64
-    ensures { (result ≡ threshold method) × (result ≤ 453) }
+// The threshold of formula (35).
+#[tactic(auto, unfolding(crate::specs::Questions::threshold))]
+fn threshold_of(method: PointMethod) -> u64
+    ensures value { result ≡ threshold method }
+    ensures at_most { result ≤ 453 }
 {
-    if method == 1 {
-        return 280;
+    match method {
+        PointMethod::ClosedCup => 280,
+        PointMethod::OpenCup => 427,
+        PointMethod::FirePoint => 453,
     }
-    if method == 2 {
-        return 427;
-    }
-    453
 }
 
-fn purpose_of(method: u64) -> Purpose
+// What a fuel has to be admitted to.
+fn purpose_of(method: PointMethod) -> Purpose
     ensures { result ≡ purpose_of method }
 {
-    if method == 3 {
-        return Purpose::FirePoint;
+    match method {
+        PointMethod::ClosedCup | PointMethod::OpenCup => Purpose::OxygenCoefficient,
+        PointMethod::FirePoint => Purpose::FirePoint,
     }
-    Purpose::OxygenCoefficient
 }
 
-// The condition of formula (35): method 1 closed cup, 2 open cup, 3 fire point; the diffusion coefficient in units of 0.0001 cm²/s.
+// The condition of formula (35): method 1 closed cup, 2 open cup, 3 fire point, and C hands in any number; the diffusion coefficient in units of 0.0001 cm²/s.
 // Refusals 16, 2, 3, 4, 18.
-pub fn flash_condition(method: u64, fuel: Atoms, diffusion: u64) -> Asked
-    ensures value { result ≡ shown_condition (flash_condition method fuel diffusion) }
+#[tactic(auto, unfolding(crate::specs::Questions::with_oxygen), using(crate::proofs::Tests::flash_tested, crate::proofs::Tests::slope_most))]
+pub fn flash_condition(method: u64, fuel: Atoms, diffusion: u64) -> Result<Condition, Refused>
+    ensures value { told result ≡ flash_condition method fuel diffusion }
     ensures as_printed { tested_by (flash_condition method fuel diffusion) ≡ flash_test method fuel diffusion }
 {
-    if is_outside(1, 3, method) {
-        return not_asked(answer::UNKNOWN_METHOD, 0);
-    }
-    let oxygen = admit(purpose_of(method), fuel);
-    let declined = oxygen.refusal;
-    if 0 < declined.number {
-        return not_asked(declined.number, declined.place);
-    }
+    let method = PointMethod::try_from(method)?;
+    let oxygen = admit(purpose_of(method), fuel)?;
     if is_outside(1, 20000, diffusion) {
-        return not_asked(answer::DIFFUSION_OUTSIDE, 0);
+        return Err(Reason::DiffusionOutside.at(0));
     }
-    asked_for(Condition {
-        slope: diffusion * oxygen.value,
+    Ok(Condition {
+        slope: diffusion * oxygen,
         base: 0,
         level: threshold_of(method) * 4000000000,
     })
 }
 
-// A question's answer on a curve: its refusal, or the smallest hundredth at which its condition holds.
-fn put_to_curve(asked: Asked, temperatures: &[i64], pressures: &[u64]) -> Temperature
-    ensures { result ≡ put_to_curve asked (curve temperatures.now pressures.now) }
-{
-    let declined = asked.refusal;
-    if 0 < declined.number {
-        return refused_temperature(declined.number, declined.place);
-    }
-    let condition = asked.condition;
-    smallest_hundredth(condition, temperatures, pressures)
-}
-
-// The lower temperature limit of a fuel. Refusals 2, 3, 4 as for limits, then 11, 12, 13.
-pub fn lower_temperature_limit(fuel: Atoms, temperatures: &[i64], pressures: &[u64]) -> Temperature
-    ensures value { result ≡ shown_temperature (lower_temperature_limit fuel (curve temperatures.now pressures.now)) }
+// The lower temperature limit of a fuel. Refusals 2, 3, 4 as for limits, then 11, 12, 13. (Here and below a curve is its two lists, as C hands them in.)
+#[tactic(auto, unfolding(crate::specs::Questions::lower_temperature_limit), using(crate::proofs::Tests::put_to_curve, curve::proofs::Searches::sound))]
+pub fn lower_temperature_limit(
+    fuel: Atoms,
+    temperatures: &[i64],
+    pressures: &[u64],
+) -> Result<i64, Refused>
+    ensures value { told result ≡ lower_temperature_limit fuel (curve temperatures.now pressures.now) }
     ensures sound { Sound (curve temperatures.now pressures.now) }
 {
-    put_to_curve(limit_condition(fuel), temperatures, pressures)
+    smallest_hundredth(limit_condition(fuel)?, temperatures, pressures)
 }
 
-// Formula (35) on a curve. Refusals 16, 2, 3, 4, 18, 11, 12, 13.
+// Formula (35) on a curve; C hands in any method number. Refusals 16, 2, 3, 4, 18, 11, 12, 13.
+#[tactic(auto, unfolding(crate::specs::Questions::flash_by_curve), using(crate::proofs::Tests::put_to_curve, curve::proofs::Searches::sound))]
 pub fn flash_by_curve(
     method: u64,
     fuel: Atoms,
     diffusion: u64,
     temperatures: &[i64],
     pressures: &[u64],
-) -> Temperature
-    ensures value { result ≡ shown_temperature (flash_by_curve method fuel diffusion (curve temperatures.now pressures.now)) }
+) -> Result<i64, Refused>
+    ensures value { told result ≡ flash_by_curve method fuel diffusion (curve temperatures.now pressures.now) }
     ensures sound { Sound (curve temperatures.now pressures.now) }
 {
-    put_to_curve(
-        flash_condition(method, fuel, diffusion),
+    smallest_hundredth(
+        flash_condition(method, fuel, diffusion)?,
         temperatures,
         pressures,
     )

@@ -1,8 +1,8 @@
-// The C interface, include/jaloosewin.h: thin exported functions, each with the promise of the function that it calls.
+// The C interface, include/jaloosewin.h: thin exported functions, each with the promise of the function that it calls. A blend and counts come in as
+// numbers, one by one, since C hands them so.
 #![tactic(auto)]
 
-ghost use Rattle.std.specs.Prelude.{◌≡◌, List, [], ◌∷◌, ◌≤◌};
-ghost use Rattle.std.proofs.Math.Option.{some, none};
+ghost use Rattle.std.specs.Prelude.{◌≡◌, List, [], ◌∷◌, ◌≤◌, Some, None};
 ghost use Rattle.answer.specs.Outcome.{shown_figure, shown_rounded};
 ghost use Rattle.formula.specs.Reading.{formula_read, ByGrammar, of_text};
 ghost use Rattle.text.specs.Writing.{Longest};
@@ -20,21 +20,23 @@ ghost use Rattle.blend.specs.Marks.{MarksAlike};
 ghost use Rattle.limits.specs.FuelLimits.{fuel_limits, AsBlend};
 ghost use Rattle.limits.specs.Concentration.{mass_concentration};
 
-use answer::{Figure, RoundedFigure, figure_unless, rounded_unless};
-use blend::{Blend, Blended, Limits, limits_unless};
+use answer::{Figure, RoundedFigure};
+use blend::{Blend, Blended, Limits};
 use elements::Atoms;
 use formula::{FormulaRead, read_formula};
 use text::Written;
 
 #[unsafe(no_mangle)]
+#[tactic(auto, unfolding(formula::specs::Reading::formula_read))]
 pub extern "C" fn jlw_read_formula(text: &[u8]) -> FormulaRead
     ensures value { result ≡ formula_read text.now }
     ensures grammar { ByGrammar text.now result }
 {
-    read_formula(text)
+    read_formula(text).into()
 }
 
 #[unsafe(no_mangle)]
+#[tactic(auto, unfolding(hill::specs::Writing::formula_written), using(text::proofs::Writings::length_shown))]
 pub extern "C" fn jlw_write_formula(
     c: u64,
     h: u64,
@@ -54,12 +56,10 @@ pub extern "C" fn jlw_write_formula(
     ensures longest { Longest 43 out.old result }
     ensures by_symbol { BySymbol }
 {
-    hill::write_formula(
-        Atoms {
-            count: [c, h, o, n, s, p, f, cl, br, si],
-        },
-        out,
-    )
+    let atoms = Atoms {
+        count: [c, h, o, n, s, p, f, cl, br, si],
+    };
+    hill::write_formula(atoms, out).into()
 }
 
 // β in quarters.
@@ -67,9 +67,9 @@ pub extern "C" fn jlw_write_formula(
 pub extern "C" fn jlw_oxygen_coefficient(text: &[u8]) -> Figure
     ensures { result ≡ shown_figure (of_text oxygen_coefficient text.now) }
 {
-    let read = read_formula(text);
-    let fuel = read.atoms;
-    figure_unless(read.refusal, oxygen::oxygen_coefficient(fuel))
+    read_formula(text)
+        .and_then(oxygen::oxygen_coefficient)
+        .into()
 }
 
 // In hundredths of a percent.
@@ -77,31 +77,29 @@ pub extern "C" fn jlw_oxygen_coefficient(text: &[u8]) -> Figure
 pub extern "C" fn jlw_stoichiometric_fraction(text: &[u8]) -> RoundedFigure
     ensures { result ≡ shown_rounded (of_text stoichiometric_fraction text.now) }
 {
-    let read = read_formula(text);
-    let fuel = read.atoms;
-    rounded_unless(read.refusal, oxygen::stoichiometric_fraction(fuel))
+    read_formula(text)
+        .and_then(oxygen::stoichiometric_fraction)
+        .into()
 }
 
 #[unsafe(no_mangle)]
 pub extern "C" fn jlw_fuel_limits(text: &[u8]) -> Limits
-    ensures value { result ≡ shown_limits (of_text (fuel_limits none) text.now) }
+    ensures value { result ≡ shown_limits (of_text (fuel_limits None) text.now) }
     ensures at_most { (result.lower ≤ 10000) × (result.upper ≤ 10000) }
-    ensures as_blend { AsBlend (fuel-text text.now) none }
+    ensures as_blend { AsBlend (fuel-text text.now) None }
 {
-    let read = read_formula(text);
-    let fuel = read.atoms;
-    limits_unless(read.refusal, limits::fuel_limits(fuel))
+    read_formula(text).and_then(limits::fuel_limits).into()
 }
 
 #[unsafe(no_mangle)]
 pub extern "C" fn jlw_fuel_limits_at(text: &[u8], temperature: i64) -> Limits
-    ensures value { result ≡ shown_limits (of_text (fuel_limits (some temperature)) text.now) }
+    ensures value { result ≡ shown_limits (of_text (fuel_limits (Some temperature)) text.now) }
     ensures at_most { (result.lower ≤ 10000) × (result.upper ≤ 10000) }
-    ensures as_blend { AsBlend (fuel-text text.now) (some temperature) }
+    ensures as_blend { AsBlend (fuel-text text.now) (Some temperature) }
 {
-    let read = read_formula(text);
-    let fuel = read.atoms;
-    limits_unless(read.refusal, limits::fuel_limits_at(fuel, temperature))
+    read_formula(text)
+        .and_then(|fuel| limits::fuel_limits_at(fuel, temperature))
+        .into()
 }
 
 // In 0.01 g/m³.
@@ -109,9 +107,9 @@ pub extern "C" fn jlw_fuel_limits_at(text: &[u8], temperature: i64) -> Limits
 pub extern "C" fn jlw_mass_concentration(text: &[u8], temperature: i64) -> Limits
     ensures { result ≡ shown_limits (of_text (mass_concentration temperature) text.now) }
 {
-    let read = read_formula(text);
-    let fuel = read.atoms;
-    limits_unless(read.refusal, limits::mass_concentration(fuel, temperature))
+    read_formula(text)
+        .and_then(|fuel| limits::mass_concentration(fuel, temperature))
+        .into()
 }
 
 #[unsafe(no_mangle)]
@@ -133,15 +131,12 @@ pub extern "C" fn jlw_add_fuel(
 ) -> Blended
     ensures { result ≡ shown_blend (blend_of total lower upper) (adding (blend_of total lower upper) (fuel-text text.now) parts) }
 {
-    blend::add_fuel_text(
-        Blend {
-            total,
-            lower,
-            upper,
-        },
-        text,
-        parts,
-    )
+    let given = Blend {
+        total,
+        lower,
+        upper,
+    };
+    Blended::of(given, blend::add_fuel_text(given, text, parts))
 }
 
 #[unsafe(no_mangle)]
@@ -165,20 +160,21 @@ pub extern "C" fn jlw_join_blends(
         lower: other_lower,
         upper: other_upper,
     };
-    blend::join_blends(first, second)
+    Blended::of(first, blend::join_blends(first, second))
 }
 
 #[unsafe(no_mangle)]
 pub extern "C" fn jlw_blend_limits(total: u64, lower: u64, upper: u64) -> Limits
-    ensures value { result ≡ shown_limits (asking_marked (blend_of total lower upper) (asked-limits none)) }
+    ensures value { result ≡ shown_limits (asking_marked (blend_of total lower upper) (asked-limits None)) }
     ensures at_most { (result.lower ≤ 10000) × (result.upper ≤ 10000) }
-    ensures in_claim { limits_told result ≡ asking (blend_of total lower upper) (asked-limits none) }
+    ensures in_claim { limits_told result ≡ asking (blend_of total lower upper) (asked-limits None) }
 {
-    blend::blend_limits(Blend {
+    let asked = Blend {
         total,
         lower,
         upper,
-    })
+    };
+    blend::blend_limits(asked).into()
 }
 
 #[unsafe(no_mangle)]
@@ -188,17 +184,15 @@ pub extern "C" fn jlw_blend_limits_at(
     upper: u64,
     temperature: i64,
 ) -> Limits
-    ensures value { result ≡ shown_limits (asking_marked (blend_of total lower upper) (asked-limits (some temperature))) }
+    ensures value { result ≡ shown_limits (asking_marked (blend_of total lower upper) (asked-limits (Some temperature))) }
     ensures at_most { (result.lower ≤ 10000) × (result.upper ≤ 10000) }
     ensures at_fit { OneAtFit }
-    ensures in_claim { limits_told result ≡ asking (blend_of total lower upper) (asked-limits (some temperature)) }
+    ensures in_claim { limits_told result ≡ asking (blend_of total lower upper) (asked-limits (Some temperature)) }
 {
-    blend::blend_limits_at(
-        Blend {
-            total,
-            lower,
-            upper,
-        },
-        temperature,
-    )
+    let asked = Blend {
+        total,
+        lower,
+        upper,
+    };
+    blend::blend_limits_at(asked, temperature).into()
 }

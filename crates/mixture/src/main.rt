@@ -3,8 +3,7 @@
 
 // Where a write fails, a line on standard error says why.
 fn main(rt: HostRuntime) {
-    match mixture_run::run(&mut rt.stdin(), &mut rt.stdout()) {
-        Ok(()) => {}
-        Err(error) => mixture_run::complain(&rt, "mixture: standard output", error),
+    if let Err(error) = mixture_run::run(&mut rt.stdin(), &mut rt.stdout()) {
+        mixture_run::complain(&rt, "mixture: standard output", error);
     }
 }

@@ -14,10 +14,11 @@ fn show_answer(rt: &impl Print, path: &str, file: &mut impl Read) -> io::Result<
 
 fn run_file(rt: &(impl Files + Print + Eprint), path: &str) {
     match File::open(rt, path) {
-        Ok(mut file) => match show_answer(rt, path, &mut file) {
-            Ok(()) => {}
-            Err(error) => mixture_run::complain(rt, "mixture: standard output", error),
-        },
+        Ok(mut file) => {
+            if let Err(error) = show_answer(rt, path, &mut file) {
+                mixture_run::complain(rt, "mixture: standard output", error);
+            }
+        }
         Err(error) => mixture_run::complain(rt, path, error),
     }
 }

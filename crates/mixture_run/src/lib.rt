@@ -1,89 +1,78 @@
 // What the program `mixture` does with one open sheet: it reads the sheet and writes the answer.
 #![tactic(auto)]
 
-ghost use Rattle.std.specs.Prelude.{◌≡◌};
-ghost use Rattle.text.specs.Writing.{Longest};
-ghost use Rattle.sheet.specs.Answer.{answer_written, answer_room};
-ghost use Rattle.mixture_run.specs.Input.{IsPrefixLen, shown_answer};
+ghost use Rattle.std.specs.Prelude.{◌≡◌, ◌≤◌, ◌<◌, length, take, IfSome, OnOk};
+ghost use Rattle.std.specs.Option.{option_copied};
+ghost use Rattle.std.specs.Io.KnownBytes.{Consumes, IsAtEnd, Appends};
+ghost use Rattle.answer.specs.Outcome.{told};
+ghost use Rattle.text.specs.Writing.{Longest, length_of, shown_written};
+ghost use Rattle.sheet.specs.Answer.{answer_text, answer_placed, answer_room};
+ghost use Rattle.mixture_run.specs.Input.{input_answer, shown_answer, WritesAnswer};
 
-use blend::{Limits, no_limits};
+use answer::{Reason, Refused, Rounded};
+use blend::LimitPair;
 use std::io;
 use std::io::{Error, ErrorKind, Read, Write};
-use text::Written;
 
-// What was read to the start of a buffer, and whether a read failed.
-#[derive(Clone, Copy)]
-struct Input {
-    length: usize,
-    has_failed: bool,
-}
-
-// Reads until out is full, the input ends or a read fails. A read that a signal interrupts is tried again. A loop has to end, so the reads are counted down from
-// a number that no run uses up.
-fn read_input<R: Read>(from: &mut R, out: &mut [u8]) -> Input
-    ensures { IsPrefixLen result.length out.new }
+// Reads until out is full, the input ends or a read fails, and answers how many bytes were read; none where a read fails. A read that a signal interrupts is
+// tried again. A loop has to end, so the reads are counted up to a number that no run comes to.
+fn read_input<R: Read>(from: &mut R, out: &mut [u8]) -> Option<usize>
+    ensures within { IfSome result (λ n. n ≤ length out.new) }
+    ensures bytes { IfSome result (λ n. Consumes (R.remaining from.old) (R.remaining from.new) (take n out.new)) }
+    ensures end { IfSome result (λ n. n < length out.new → IsAtEnd (R.remaining from.new)) }
 {
     let mut done = 0;
-    let mut turns = u64::MAX;
-    while 0 < turns && done < out.len() {
+    for _ in 0..u64::MAX {
+        if done == out.len() {
+            break;
+        }
         match from.read(&mut out[done..]) {
-            Ok(0) => {
-                return Input {
-                    length: done,
-                    has_failed: false,
-                };
-            }
+            Ok(0) => return Some(done),
             Ok(got) => done += got,
             Err(error) => {
                 if error.kind() != ErrorKind::Interrupted {
-                    return Input {
-                        length: done,
-                        has_failed: true,
-                    };
+                    return None;
                 }
             }
         }
-        turns -= 1;
     }
-    Input {
-        length: done,
-        has_failed: done < out.len(),
-    }
+    if done < out.len() { None } else { Some(done) }
 }
 
-// The answer to what was read. Refusal 15 with place 0 where a read failed.
-fn input_answer(input: &[u8], has_failed: bool) -> Limits
-    ensures { result ≡ shown_answer input.now has_failed }
+// The answer to an input. Refusal 15 with place 0 where it could not be read to its end.
+fn input_answer(input: Option<&[u8]>) -> Result<LimitPair<Rounded<u64>>, Refused>
+    ensures { told result ≡ input_answer (option_copied input.entry) }
 {
-    if has_failed {
-        return no_limits(answer::BAD_SHEET, 0);
-    }
-    sheet::sheet_answer(input)
+    sheet::sheet_answer(input.ok_or(Reason::BadSheet.at(0))?)
 }
 
-// What the program writes: the text of the answer to what was read, at the start of out, as sheet::write_answer does.
-pub fn respond(input: &[u8], has_failed: bool, out: &mut [u8]) -> Written
-    ensures value { result ≡ answer_written (shown_answer input.now has_failed) out.old }
-    ensures room { out.new ≡ answer_room (shown_answer input.now has_failed) out.old }
-    ensures longest { Longest 76 out.old result }
+// What the program writes: the text of the answer to what was read, none where a read failed, at the start of out, as sheet::write_answer does.
+pub fn respond(input: Option<&[u8]>, out: &mut [u8]) -> Result<usize, Refused>
+    ensures value { told result ≡ length_of (answer_placed (shown_answer (option_copied input.entry)) (length out.old)) }
+    ensures room { out.new ≡ answer_room (shown_answer (option_copied input.entry)) out.old }
+    ensures longest { Longest 76 out.old (shown_written (told result)) }
 {
-    sheet::write_answer(input_answer(input, has_failed), out)
+    sheet::write_answer(input_answer(input).into(), out)
 }
 
-// Writes until all is written or a write fails. A write that a signal interrupts is tried again.
-fn write_output<W: Write>(to: &mut W, text: &[u8]) -> io::Result<()> {
-    to.write_all(text)
-}
-
-// One byte more than a sheet may have is read, so that the answer can tell a longer one. The room holds every answer's text. An error is that of a write.
-pub fn run<R: Read, W: Write>(from: &mut R, to: &mut W) -> io::Result<()> {
-    let mut input = [0u8; 65537];
-    let read = read_input(from, &mut input);
-    let length = read.length;
+// Writes the answer to an input. The room holds every answer's text.
+fn write_answer<W: Write>(input: Option<&[u8]>, to: &mut W) -> io::Result<()>
+    ensures { OnOk result (Appends (W.contents to.old) (W.contents to.new) (answer_text (shown_answer (option_copied input.entry)))) }
+{
     let mut out = [0u8; 76];
-    let written = respond(&input[..length], read.has_failed, &mut out);
-    let end = written.length as usize;
-    write_output(to, &out[..end])
+    let end = respond(input, &mut out).unwrap_or(0);
+    to.write_all(&out[..end])
+}
+
+// One byte more than a sheet may have is read, so that the answer can tell a longer one. An error is that of a write.
+pub fn run<R: Read, W: Write>(from: &mut R, to: &mut W) -> io::Result<()>
+    ensures { OnOk result (WritesAnswer (R.remaining from.old) (W.contents to.old) (W.contents to.new)) }
+{
+    let mut room = [0u8; 65537];
+    match read_input(from, &mut room) {
+        Some(length) => write_answer(Some(&room[..length]), to),
+        None => write_answer(None, to),
+    }
 }
 
 // Says on standard error why something failed: what it was, and the system's words without the number that the library puts behind them.

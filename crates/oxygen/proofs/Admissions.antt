@@ -1,22 +1,18 @@
 -- Which element is at fault, and what is known of an admitted fuel.
 use mathlib.Core.Path.{◌≡◌, sym, ap, ◌∙◌}
 use mathlib.Core.Bool.{Bool, true, false, cond}
-use mathlib.Core.Option.{Option, some, none, get_or}
+use Rattle.std.specs.Prelude.{Some, None}
 use Prim.Native.Nat.{ℕ, ◌+◌, ◌-◌, ◌≤◌}
 use native.Mathlib.Omega.{arith}
 use lib.Dec.{eqb}
-use lib.IntN.{pos, nat_abs}
-use lib.Signed.{lt_z}
-use borrow.Author.Tests.{eq-eqb, ne_eqb}
+use lib.IntN.{nat_abs}
 use Rattle.answer.specs.Numbers.{count_too_large, element_not_admitted, oxygen_too_low}
-use Rattle.answer.specs.Outcome.{Outcome, answered, refuse, refuse_at, value_of}
-use Rattle.answer.specs.Internal.{Numbered}
-use Rattle.answer.proofs.Lowest.{found_none}
-use Rattle.answer.proofs.Outcomes.{refuse-numbered, refuse_at-numbered, refuse-passed, refuse_at-passed}
+use Rattle.answer.specs.Outcome.{answered, value_of}
+use Rattle.answer.proofs.Outcomes.{refuse-passed, refuse_at-passed}
 use Rattle.elements.specs.declared.Element.{Element}
 use Rattle.elements.specs.declared.Element.TheVariants.{Carbon, Hydrogen, Sulfur, Phosphorus}
 use Rattle.elements.specs.declared.Atoms.{Atoms}
-use Rattle.elements.specs.Elements.{number, count, each, first_above}
+use Rattle.elements.specs.Elements.{number, count, first_above}
 use Rattle.elements.specs.Internal.{AtMost200}
 use Rattle.elements.proofs.Elements.{number-from, number-to}
 use Rattle.elements.proofs.Above.{none_above, above-none}
@@ -27,43 +23,20 @@ use Rattle.oxygen.specs.Admission.{most, not_admitted, admission}
 use Rattle.oxygen.specs.Internal.{gain, loss}
 use Rattle.oxygen.proofs.Betas.{gain-most, beta-high, beta-back}
 
--- the lowest element at fault: carbon where it is missing, else the lowest above its bound
+-- with no element at fault no count is above its bound
 module _ (p : Purpose) (a : Atoms) where
-  pub without-carbon : count a Carbon ≡ 0 → not_admitted p a ≡ some 1
+  pub within-most : not_admitted p a ≡ None → (x : Element) → count a x ≤ count (most p) x
   unfolding not_admitted
-  without-carbon z = rw (eq-eqb (count a Carbon) 0 z)
-
-  pub with-carbon : (count a Carbon ≡ 0 → ⊥) → not_admitted p a ≡ first_above (most p) a
-  unfolding not_admitted
-  with-carbon n = rw (ne_eqb (count a Carbon) 0 n)
-
-  by-carbon : (P : Option ℕ → Type 0) → P (some 1) → P (first_above (most p) a) → P (not_admitted p a)
-  unfolding not_admitted
-  by-carbon P x y = go (eqb (count a Carbon) 0)
+  within-most n x = go (eqb (count a Carbon) 0) n
     where
-      go : (b : Bool) → P (cond b (some 1) (first_above (most p) a))
-      go true = x
-      go false = y
-
-  pub no_fault : (k : ℕ) → k ≡ get_or (not_admitted p a) 0 → k ≤ 0 → not_admitted p a ≡ none
-  unfolding first_above
-  no_fault k = by-carbon (λ o. k ≡ get_or o 0 → k ≤ 0 → o ≡ none) (λ e l. absurd (omega arith)) (found_none _ 10 k)
-
-  pub within-most : not_admitted p a ≡ none → (x : Element) → count a x ≤ count (most p) x
-  within-most n x = none_above (most p) a (by-carbon (λ o. o ≡ none → first_above (most p) a ≡ none) (λ e. cc) (λ e. e) n) (number x) (number-from x) (number-to x)
-
-pub admission-numbered : (p : Purpose) (a : Atoms) → Numbered (admission p a)
-unfolding admission
-admission-numbered p a =
-    let low : Outcome ℕ = refuse oxygen_too_low 0 (lt_z (beta a) (pos 2)) (answered (nat_abs (beta a))) in
-    refuse_at-numbered count_too_large (first_above (each 200) a) (refuse_at element_not_admitted (not_admitted p a) low) (omega arith)
-    (refuse_at-numbered element_not_admitted (not_admitted p a) low (omega arith)
-    (refuse-numbered oxygen_too_low 0 (lt_z (beta a) (pos 2)) (answered (nat_abs (beta a))) (omega arith) tt))
+      go : (b : Bool) → cond b (Some 1) (first_above (most p) a) ≡ None → count a x ≤ count (most p) x
+      go true e = cc
+      go false e = none_above (most p) a e (number x) (number-from x) (number-to x)
 
 -- a fuel that is admitted, with β of q quarters
 pub record Admitted (p : Purpose) (a : Atoms) (q : ℕ) : Type 0 where
   pub few : AtMost200 a
-  pub no_fault : not_admitted p a ≡ none
+  pub no_fault : not_admitted p a ≡ None
   pub is : q ≡ nat_abs (beta a)
   pub terms : q ≡ gain a - loss a
   pub least : 2 ≤ q

@@ -1,6 +1,7 @@
 -- β in quarters is what the code computes of it: the terms that add less those that take away; and how large these are.
 use mathlib.Core.Path.{◌≡◌, refl, sym, ap, ◌∙◌}
 use mathlib.Core.Bool.{true, false}
+use Rattle.std.specs.Prelude.{None}
 use Prim.Native.Nat.{ℕ, zero, suc, ◌+◌, ◌*◌, ◌-◌, ◌≤◌, ◌<◌}
 use native.Mathlib.Decide.{dec_lt}
 use native.Mathlib.Omega.{arith}
@@ -10,7 +11,8 @@ use lib.Signed.{lt_z}
 use Rattle.answer.proofs.Tests.{never}
 use Rattle.elements.specs.declared.Element.TheVariants.{Carbon, Hydrogen, Oxygen, Sulfur, Phosphorus, Fluorine, Chlorine, Bromine}
 use Rattle.elements.specs.declared.Atoms.{Atoms}
-use Rattle.elements.specs.Elements.{count, sum_below, weighted_sum}
+use Rattle.elements.specs.Elements.{count, each, first_above, sum_below, weighted_sum}
+use Rattle.elements.proofs.Above.{at-most-200}
 use Rattle.elements.specs.Internal.{AtMost200}
 use Rattle.oxygen.specs.Beta.{halogens, beta}
 use Rattle.elements.proofs.Weights.{weighted-few}
@@ -78,3 +80,20 @@ module _ (a : Atoms) where
       go : Dec (gain a < loss a + 2) → loss a + 2 ≤ gain a
       go (yes l) = never (lt_z (beta a) (pos 2)) (beta-low l) e
       go (no l) = omega arith
+
+-- the sums n and m as the code makes them, where no count is above 200
+module _ (a : Atoms) (few : first_above (each 200) a ≡ None) {n m : ℕ} (gained : n ≡ weighted_sum added a) (lost : m ≡ weighted_sum taken a) where
+  small : AtMost200 a
+  small = at-most-200 a few
+
+  pub sums-most : (n ≤ 3800) × (m ≤ 1000)
+  sums-most = (
+    omega (arith, gained ∙ added_is a small, gain-most a small),
+    omega (arith, lost ∙ taken_is a small, loss-most a small),
+  )
+
+  pub sums-low : n < m + 2 → lt_z (beta a) (pos 2) ≡ true
+  sums-low l = beta-low a (omega (arith, gained ∙ added_is a small, lost ∙ taken_is a small))
+
+  pub sums-high : m + 2 ≤ n → (lt_z (beta a) (pos 2) ≡ false) × (nat_abs (beta a) ≡ n - m)
+  sums-high l = rw (gained ∙ added_is a small, lost ∙ taken_is a small) (beta-high a (omega (arith, gained ∙ added_is a small, lost ∙ taken_is a small)))

@@ -15,5 +15,5 @@ percent-is q =
     let sum = is-plus term (is_same {m = 100} {e = 100} (is_whole 1) (omega arith) (omega arith)) in
     is_same (is-times (is_whole 100) (is-by (is_whole 100) sum (omega arith))) (omega arith) (omega arith)
 
-pub stoichiometric-rounded : (q : ℕ) → rounded (whole 100 ⊠ stoichiometric q) ≡ round_div 1000000 (121 * q + 100)
-stoichiometric-rounded q = rounded-is (percent-is q)
+pub percent_rounded : (q : ℕ) → rounded (whole 100 ⊠ stoichiometric q) ≡ round_div 1000000 (121 * q + 100)
+percent_rounded q = rounded-is (percent-is q)

@@ -1,6 +1,5 @@
 -- Which fuels are admitted to what (document 01, "Oxygen and gas limits" and refusals 2, 3 and 4).
-use Rattle.std.specs.Prelude.{cond, [], ◌∷◌, ℕ, eqb, pos, nat_abs}
-use Rattle.std.proofs.Math.Option.{Option, some}
+use Rattle.std.specs.Prelude.{cond, Option, Some, [], ◌∷◌, ℕ, eqb, pos, nat_abs}
 use Rattle.std.specs.Int.Signed.{lt_z}
 use Rattle.answer.specs.Numbers.{count_too_large, element_not_admitted, oxygen_too_low}
 use Rattle.answer.specs.Outcome.{Outcome, answered, refuse, refuse_at}
@@ -19,7 +18,7 @@ most FirePoint = record { count = 200 ∷ 200 ∷ 200 ∷ 200 ∷ 0 ∷ 0 ∷ 0 
 
 -- the lowest element at fault: carbon, element 1, where it is missing, else the lowest that is not admitted
 unfoldable pub not_admitted : Purpose → Atoms → Option ℕ
-not_admitted p a = cond (eqb (count a Carbon) 0) (some (number Carbon)) (first_above (most p) a)
+not_admitted p a = cond (eqb (count a Carbon) 0) (Some (number Carbon)) (first_above (most p) a)
 
 -- β of an admitted fuel in quarters, which is at least 1/2
 unfoldable pub admission : Purpose → Atoms → Outcome ℕ

@@ -11,5 +11,5 @@ unfoldable pub stoichiometric : ℕ → Fraction
 stoichiometric q = whole 100 ⊘ ((484 over 100) ⊠ (q over 4) ⊞ whole 1)
 
 -- in hundredths of a percent
-unfoldable pub stoichiometric_fraction : Atoms → Outcome Rounded
+unfoldable pub stoichiometric_fraction : Atoms → Outcome (Rounded ℕ)
 stoichiometric_fraction a = and_then (oxygen_coefficient a) (λ q. answered (rounded (whole 100 ⊠ stoichiometric q)))

@@ -1,16 +1,13 @@
 // The oxygen coefficient of a fuel, which fuels are admitted to what, and the stoichiometric fraction.
 #![tactic(auto)]
 
-ghost use Rattle.std.specs.Prelude.{◌≡◌, ◌≤◌};
-ghost use Rattle.std.proofs.Math.Option.{get_or};
-ghost use Rattle.answer.specs.Outcome.{shown_figure, shown_rounded};
+ghost use Rattle.std.specs.Prelude.{◌≡◌, ◌≤◌, IfOk};
+ghost use Rattle.answer.specs.Outcome.{told};
 ghost use Rattle.oxygen.specs.Admission.{most, not_admitted, admission, oxygen_coefficient};
 ghost use Rattle.oxygen.specs.Stoichiometric.{stoichiometric_fraction};
 
-use answer::{
-    Figure, RoundedFigure, answered_figure, answered_rounded, refused_figure, refused_rounded,
-};
-use elements::{Atoms, each, first_above, weighted_sum};
+use answer::{Reason, Refused, Rounded};
+use elements::{Atoms, Element, each, first_above, number_of, weighted_sum};
 use rounding::round_div;
 
 // What adds to β and what takes from it, in quarters: C H O N S P F Cl Br Si.
@@ -19,77 +16,76 @@ const ADDED: [u8; 10] = [4, 1, 0, 0, 4, 10, 0, 0, 0, 0];
 const TAKEN: [u8; 10] = [0, 0, 2, 0, 0, 0, 1, 1, 1, 0];
 
 // What a fuel is admitted to.
-#[derive(Clone, Copy)]
+#[derive(Clone, Copy, Debug, PartialEq, Eq)]
 pub enum Purpose {
     OxygenCoefficient,
     GasLimits,
     FirePoint,
 }
 
-// The most atoms of each element that are admitted.
-fn most_atoms(purpose: Purpose) -> Atoms
-    ensures { result ≡ most purpose }
-{
-    match purpose {
-        Purpose::OxygenCoefficient => Atoms {
-            count: [200, 200, 200, 200, 200, 200, 200, 200, 200, 0],
-        },
-        Purpose::GasLimits => Atoms {
-            count: [200, 200, 200, 200, 0, 0, 0, 1, 0, 0],
-        },
-        Purpose::FirePoint => Atoms {
-            count: [200, 200, 200, 200, 0, 0, 0, 0, 0, 0],
-        },
+impl Purpose {
+    // The most atoms of each element that are admitted.
+    fn most_atoms(self) -> Atoms
+        ensures { result ≡ most self }
+    {
+        match self {
+            Purpose::OxygenCoefficient => Atoms {
+                count: [200, 200, 200, 200, 200, 200, 200, 200, 200, 0],
+            },
+            Purpose::GasLimits => Atoms {
+                count: [200, 200, 200, 200, 0, 0, 0, 1, 0, 0],
+            },
+            Purpose::FirePoint => Atoms {
+                count: [200, 200, 200, 200, 0, 0, 0, 0, 0, 0],
+            },
+        }
     }
-}
 
-// The number of the lowest element at fault, 0 where there is none.
-fn at_fault(purpose: Purpose, atoms: Atoms) -> u64
-    ensures { result ≡ get_or (not_admitted purpose atoms) 0 }
-{
-    if atoms.count[0] == 0 {
-        return 1;
+    // The number of the lowest element at fault.
+    #[tactic(auto, unfolding(crate::specs::Admission::not_admitted))]
+    fn element_at_fault(self, atoms: Atoms) -> Option<u64>
+        ensures { result ≡ not_admitted self atoms }
+    {
+        if atoms.of(Element::Carbon) == 0 {
+            return Some(number_of(Element::Carbon));
+        }
+        first_above(self.most_atoms(), atoms)
     }
-    first_above(most_atoms(purpose), atoms)
 }
 
 // β in quarters of a fuel that is admitted; refusals 2, 3 and 4.
-pub fn admit(purpose: Purpose, atoms: Atoms) -> Figure
-    ensures value { result ≡ shown_figure (admission purpose atoms) }
-    ensures bounded { result.value ≤ 3800 }
+#[tactic(auto, unfolding(crate::specs::Admission::admission))]
+pub fn admit(purpose: Purpose, atoms: Atoms) -> Result<u64, Refused>
+    ensures value { told result ≡ admission purpose atoms }
+    ensures bounded { IfOk result (λ q. q ≤ 3800) }
 {
-    let over = first_above(each(200), atoms);
-    if 0 < over {
-        return refused_figure(answer::COUNT_TOO_LARGE, over);
+    if let Some(over) = first_above(each(200), atoms) {
+        return Err(Reason::CountTooLarge.at(over));
     }
-    let fault = at_fault(purpose, atoms);
-    if 0 < fault {
-        return refused_figure(answer::ELEMENT_NOT_ADMITTED, fault);
+    if let Some(fault) = purpose.element_at_fault(atoms) {
+        return Err(Reason::ElementNotAdmitted.at(fault));
     }
     let added = weighted_sum(ADDED, atoms);
     let taken = weighted_sum(TAKEN, atoms);
     if added < taken + 2 {
-        return refused_figure(answer::OXYGEN_TOO_LOW, 0);
+        return Err(Reason::OxygenTooLow.at(0));
     }
-    answered_figure(added - taken)
+    Ok(added - taken)
 }
 
 // β in quarters.
-pub fn oxygen_coefficient(atoms: Atoms) -> Figure
-    ensures value { result ≡ shown_figure (oxygen_coefficient atoms) }
-    ensures bounded { result.value ≤ 3800 }
+pub fn oxygen_coefficient(atoms: Atoms) -> Result<u64, Refused>
+    ensures value { told result ≡ oxygen_coefficient atoms }
+    ensures bounded { IfOk result (λ q. q ≤ 3800) }
 {
     admit(Purpose::OxygenCoefficient, atoms)
 }
 
 // The stoichiometric fraction in hundredths of a percent.
-pub fn stoichiometric_fraction(atoms: Atoms) -> RoundedFigure
-    ensures { result ≡ shown_rounded (stoichiometric_fraction atoms) }
+#[tactic(auto, unfolding(crate::specs::Stoichiometric::stoichiometric_fraction), using(crate::proofs::Stoichiometry::percent_rounded))]
+pub fn stoichiometric_fraction(atoms: Atoms) -> Result<Rounded<u64>, Refused>
+    ensures { told result ≡ stoichiometric_fraction atoms }
 {
-    let beta = oxygen_coefficient(atoms);
-    let declined = beta.refusal;
-    if 0 < declined.number {
-        return refused_rounded(declined.number, declined.place);
-    }
-    answered_rounded(round_div(1000000, 121 * beta.value + 100))
+    let beta = oxygen_coefficient(atoms)?;
+    Ok(round_div(1000000, 121 * beta + 100))
 }

@@ -6,7 +6,8 @@ use native.Mathlib.Nat.{eq_of_mul-eq-mul_right, mul-lt-mul_of_pos_right, lt_of_m
 use native.Mathlib.Omega.{arith}
 use lib.Dec.{ltb}
 use borrow.Author.Tests.{lt-ltb, le-ltb, ltb-true, ltb-false, ne_eqb}
-use Rattle.answer.specs.Marks.{exact, raised, lowered}
+use Rattle.answer.specs.declared.Mark.{Mark}
+use Rattle.answer.specs.declared.Mark.TheVariants.{Exact, Raised, Lowered}
 use Rattle.rounding.specs.Round.{mark_of}
 use Rattle.rounding.specs.Rounds.{Marked, is-exact, is-raised, is-lowered}
 
@@ -15,12 +16,12 @@ module _ (n d r : ℕ) (h : 0 < d) where
   unfolding mark_of
   marked = rw (ne_eqb d 0 (λ z. omega arith)) (go (ltb n (r * d)) refl (ltb (r * d) n) refl)
     where
-      go : (a : Bool) → ltb n (r * d) ≡ a → (b : Bool) → ltb (r * d) n ≡ b → Marked n d r (cond a raised (cond b lowered exact))
+      go : (a : Bool) → ltb n (r * d) ≡ a → (b : Bool) → ltb (r * d) n ≡ b → Marked n d r (cond a Raised (cond b Lowered Exact))
       go true e b g = is-raised (ltb-true n (r * d) e)
       go false e true g = is-lowered (ltb-true (r * d) n g)
       go false e false g = is-exact (omega (arith, ltb-false n (r * d) e, ltb-false (r * d) n g))
 
-  pub marked-only : (m : ℕ) → Marked n d r m → m ≡ mark_of n d r
+  pub marked-only : (m : Mark) → Marked n d r m → m ≡ mark_of n d r
   unfolding mark_of
   marked-only _ (is-exact e) = rw (ne_eqb d 0 (λ z. omega arith), le-ltb n (r * d) (omega arith), le-ltb (r * d) n (omega arith))
   marked-only _ (is-raised l) = rw (ne_eqb d 0 (λ z. omega arith), lt-ltb n (r * d) l)
@@ -28,7 +29,7 @@ module _ (n d r : ℕ) (h : 0 < d) where
 
 -- equal fractions
 module _ (n d m e r : ℕ) (h : 0 < d) (k : 0 < e) (same : n * e ≡ m * d) where
-  moved : {mark : ℕ} → Marked n d r mark → Marked m e r mark
+  moved : {mark : Mark} → Marked n d r mark → Marked m e r mark
   moved (is-exact p) = let q = ap (λ (z : ℕ). z * e) p in is-exact (eq_of_mul-eq-mul_right d h (r * e) m (omega arith))
   moved (is-raised l) =
       let p : n * e < r * d * e = mul-lt-mul_of_pos_right l k in

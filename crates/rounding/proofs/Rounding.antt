@@ -9,7 +9,8 @@ use lib.IntN.{ℤ, pos, negsuc, neg_ℤ, neg_ℤ-neg_ℤ, nat_abs, ◌-ℤ◌, �
 use lib.Signed.{lt_z}
 use borrow.Author.Tests.{ltb-true}
 use Rattle.answer.specs.declared.Rounded.{Rounded}
-use Rattle.answer.specs.declared.RoundedSigned.{RoundedSigned}
+use Rattle.answer.specs.declared.Mark.{Mark}
+use Rattle.answer.specs.declared.Mark.TheVariants.{Exact, Lowered}
 use Rattle.rounding.specs.Round.{rounded_value, mark_of, round_div, round_div_ℤ}
 use Rattle.rounding.specs.Rounds.{Nearest, Marked, is-exact, is-lowered, Rounds, Rounds_ℤ}
 use Rattle.rounding.proofs.Marks.{marked, marked-only, mark-alike}
@@ -53,26 +54,26 @@ round-le n zero = omega (arith, round-by-zero n)
 round-le n (suc d) = omega (arith, round_mono n (suc d) n 1 (omega arith) (omega arith) (mul-le-mul_left n (omega arith)))
 
 -- VALUE AND MARK
-abbrev with-mark : ℕ → ℕ → Rounded
+abbrev with-mark : ℕ → Mark → Rounded ℕ
 with-mark r m = record { value = r; mark = m }
 
-pub round-only : (n d r m : ℕ) → 0 < d → Nearest n d r → Marked n d r m → with-mark r m ≡ round_div n d
+pub round-only : (n d r : ℕ) (m : Mark) → 0 < d → Nearest n d r → Marked n d r m → with-mark r m ≡ round_div n d
 unfolding round_div
 round-only n d r m h t k = let e = nearest-is n d r t in ap₂ with-mark e (rw e at (marked-only n d r h m k))
 
 -- below a half it is 0, exactly or lowered; so all that is below a half and not 0 is rounded alike
-round-none : (n d m : ℕ) → 2 * n < d → Marked n d 0 m → with-mark 0 m ≡ round_div n d
+round-none : (n d : ℕ) (m : Mark) → 2 * n < d → Marked n d 0 m → with-mark 0 m ≡ round_div n d
 round-none n d m h k = round-only n d 0 m (omega arith) (record { low = omega arith; high = omega arith }) k
 
 pub none_alike : (a b c d : ℕ) → 2 * a < b → 2 * c < d → (a ≡ 0 → c ≡ 0) → (0 < a → 0 < c) → round_div a b ≡ round_div c d
-none_alike zero b c d h k z p = sym (round-none 0 b 0 h (is-exact (omega arith))) ∙ round-none c d 0 k (is-exact (omega (arith, z refl)))
-none_alike (suc a) b c d h k z p = sym (round-none (suc a) b 2 h (is-lowered (omega arith))) ∙ round-none c d 2 k (is-lowered (omega (arith, p (omega arith))))
+none_alike zero b c d h k z p = sym (round-none 0 b Exact h (is-exact (omega arith))) ∙ round-none c d Exact k (is-exact (omega (arith, z refl)))
+none_alike (suc a) b c d h k z p = sym (round-none (suc a) b Lowered h (is-lowered (omega arith))) ∙ round-none c d Lowered k (is-lowered (omega (arith, p (omega arith))))
 
-pub div-by-zero : (n : ℕ) → with-mark 0 0 ≡ round_div n 0
+pub div-by-zero : (n : ℕ) → with-mark 0 Exact ≡ round_div n 0
 unfolding round_div mark_of
 div-by-zero n = ap₂ with-mark (sym (round-by-zero n)) refl
 
-pub div-le : (n d : ℕ) (r : Rounded) → r ≡ round_div n d → r.value ≤ n
+pub div-le : (n d : ℕ) (r : Rounded ℕ) → r ≡ round_div n d → r.value ≤ n
 unfolding round_div
 div-le n d r e = rw e (round-le n d)
 
@@ -82,7 +83,7 @@ div_same a b c d hb hd h =
     let e = round_same a b c d hb hd h in
     ap₂ with-mark e (rw e (mark-alike a b c d (rounded_value c d) hb hd h))
 
-pub rounds : (n d : ℕ) (r : Rounded) → r ≡ round_div n d → Rounds n d r
+pub rounds : (n d : ℕ) (r : Rounded ℕ) → r ≡ round_div n d → Rounds n d r
 unfolding round_div
 rounds n d r e =
     rw e
@@ -125,7 +126,7 @@ signed-near (negsuc n) d h =
     (omega (arith, size-diff-neg (suc n) (rounded_value (suc n) d * d), nearest (suc n) d h))
 
 -- equal fractions
-abbrev with-sign : (ℕ → ℤ) → Rounded → RoundedSigned
+abbrev with-sign : (ℕ → ℤ) → Rounded ℕ → Rounded ℤ
 with-sign sign r = record { value = sign r.value; mark = r.mark }
 
 signed-alike : (z : ℤ) (d : ℕ) (y : ℤ) (e : ℕ) → 0 < d → 0 < e → z *ℤ pos e ≡ y *ℤ pos d → round_div_ℤ y e ≡ round_div_ℤ z d
@@ -136,12 +137,12 @@ signed-alike (negsuc n) d (pos m) e h k same = absurd (pos-not-neg (m * d) (suc 
 signed-alike (negsuc n) d (negsuc m) e h k same =
     ap (with-sign (λ r. neg_ℤ (pos r))) (div_same (suc m) e (suc n) d k h (sym (size-neg-is (suc m * d)) ∙ sym (ap nat_abs same) ∙ size-neg-is (suc n * e)))
 
-signed-by-zero : (z : ℤ) → round_div_ℤ z 0 ≡ record { value = pos 0; mark = 0 }
+signed-by-zero : (z : ℤ) → round_div_ℤ z 0 ≡ record { value = pos 0; mark = Exact }
 unfolding round_div_ℤ round_div mark_of
 signed-by-zero (pos n) = rw (round-by-zero n)
 signed-by-zero (negsuc n) = rw (round-by-zero (suc n))
 
-pub rounds_ℤ : (z : ℤ) (d : ℕ) (r : RoundedSigned) → r ≡ round_div_ℤ z d → Rounds_ℤ z d r
+pub rounds_ℤ : (z : ℤ) (d : ℕ) (r : Rounded ℤ) → r ≡ round_div_ℤ z d → Rounds_ℤ z d r
 rounds_ℤ z d r e =
     rw e
     (record {
@@ -154,13 +155,13 @@ rounds_ℤ z d r e =
     })
 
 -- a size that was rounded, with its mark, and the sign put back
-pub div-neg : (z : ℤ) (d : ℕ) (r : Rounded) → r ≡ round_div (nat_abs z) d → (v : ℤ) → lt_z z (pos 0) ≡ true → v ≡ neg_ℤ (pos r.value) →
+pub div-neg : (z : ℤ) (d : ℕ) (r : Rounded ℕ) → r ≡ round_div (nat_abs z) d → (v : ℤ) → lt_z z (pos 0) ≡ true → v ≡ neg_ℤ (pos r.value) →
     record { value = v; mark = r.mark } ≡ round_div_ℤ z d
 unfolding round_div_ℤ round_div
 div-neg (pos n) d r e v h p = absurd (omega (arith, ltb-true n 0 h))
 div-neg (negsuc n) d r e v h p = rw (p, e)
 
-pub div-pos : (z : ℤ) (d : ℕ) (r : Rounded) → r ≡ round_div (nat_abs z) d → (v : ℤ) → lt_z z (pos 0) ≡ false → v ≡ pos r.value →
+pub div-pos : (z : ℤ) (d : ℕ) (r : Rounded ℕ) → r ≡ round_div (nat_abs z) d → (v : ℤ) → lt_z z (pos 0) ≡ false → v ≡ pos r.value →
     record { value = v; mark = r.mark } ≡ round_div_ℤ z d
 unfolding round_div_ℤ round_div
 div-pos (pos n) d r e v h p = rw (p, e)

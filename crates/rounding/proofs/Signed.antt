@@ -1,32 +1,18 @@
--- Signed numbers: −1 − z, which swaps the two halves of a signed type; sizes of negations, sums, products and differences; what fits and what is read back.
+-- Signed numbers: sizes of negations, sums, products and differences; what fits and what is read back.
 use mathlib.Core.Path.{◌≡◌, refl, sym, ap, ◌∙◌}
 use mathlib.Core.Bool.{Bool, true, false}
 use Prim.Native.Nat.{ℕ, zero, suc, ◌+◌, ◌*◌, ◌-◌, ◌^◌, ◌<◌, ◌≤◌}
 use native.Mathlib.Nat.{le_refl, zero-mul}
-use native.Mathlib.Numerals.{add-one}
 use native.Mathlib.Omega.{arith}
 use lib.Dec.{ltb, eqb}
 use lib.IntN.{ℤ, pos, negsuc, neg_ℤ, neg_ℤ-+ℤ, nat_abs, sub_ℕ, ◌+ℤ◌, ◌-ℤ◌, ◌*ℤ◌}
 use lib.Signed.{mag, lt_z}
-use borrow.Author.Tests.{ltb-true, ltb-false, le-ltb, ne_eqb}
+use borrow.Author.Tests.{ltb-true, ltb-false, lt-ltb, ne_eqb}
 use mir.Syntax.{Width, w64}
 use mir.Val.{SFits, hbits, to_z, of_z}
 use mir.Facts.{to_z-of_z}
 
--- below zero
-pub flip-neg : (z : ℤ) → lt_z z (pos 0) ≡ true → negsuc 0 -ℤ z ≡ pos (mag z)
-flip-neg (pos n) h = absurd (omega (arith, ltb-true n 0 h))
-flip-neg (negsuc n) h = rw (le-ltb (suc n) 1 (omega arith)) (ap pos (omega arith))
-
-pub size-neg : (z : ℤ) → lt_z z (pos 0) ≡ true → mag z + 1 ≡ nat_abs z
-size-neg (pos n) h = absurd (omega (arith, ltb-true n 0 h))
-size-neg (negsuc n) h = add-one n
-
 -- not below zero
-pub flip-pos : (n : ℕ) → negsuc 0 -ℤ pos n ≡ negsuc n
-flip-pos zero = refl
-flip-pos (suc n) = ap negsuc (omega arith)
-
 pub size-pos : (z : ℤ) → lt_z z (pos 0) ≡ false → pos (nat_abs z) ≡ z
 size-pos (pos n) h = refl
 size-pos (negsuc n) h = cc
@@ -39,10 +25,6 @@ size-flip (negsuc n) = refl
 
 pub size-neg-is : (n : ℕ) → nat_abs (neg_ℤ (pos n)) ≡ n
 size-neg-is n = size-flip (pos n)
-
-pub neg_is : (n : ℕ) → 0 < n → negsuc (n - 1) ≡ neg_ℤ (pos n)
-neg_is zero h = absurd (omega arith)
-neg_is (suc n) h = ap negsuc (omega arith)
 
 pub pos-not-neg : (a b : ℕ) → 0 < b → pos a ≡ neg_ℤ (pos b) → ⊥
 pos-not-neg a zero h e = omega arith
@@ -87,6 +69,18 @@ mag-size (negsuc n) = omega arith
 
 pub fits-size : {w : Width} (z : ℤ) → nat_abs z < 2 ^ hbits w → SFits w z
 fits-size z h = record { sfits = omega (arith, mag-size z) }
+
+-- 0 less a size
+pub zero-less : (n : ℕ) → pos 0 -ℤ pos n ≡ neg_ℤ (pos n)
+zero-less zero = refl
+zero-less (suc n) = rw (lt-ltb 0 (suc n) (omega arith)) (ap negsuc (omega arith))
+
+pub less-fits : (n : ℕ) → n ≤ 2 ^ 63 → SFits w64 (pos 0 -ℤ pos n)
+less-fits n l = rw (zero-less n) (go n l)
+  where
+    go : (k : ℕ) → k ≤ 2 ^ 63 → SFits w64 (neg_ℤ (pos k))
+    go zero h = record { sfits = omega arith }
+    go (suc k) h = record { sfits = omega arith }
 
 -- a signed local holds bits: what is read back from the bits of y, where y is z and z fits
 pub read_back : {w : Width} {y z : ℤ} → SFits w z → y ≡ z → to_z w (of_z w y) ≡ z

@@ -50,5 +50,5 @@ unfoldable pub at_most : Fraction → Fraction → Bool
 at_most f g = leb (f.num * g.den) (g.num * f.den)
 
 -- the exact fraction rounded once, with its mark
-unfoldable pub rounded : Fraction → Rounded
+unfoldable pub rounded : Fraction → Rounded ℕ
 rounded f = round_div f.num f.den

@@ -6,10 +6,10 @@ ghost use Rattle.rounding.specs.Round.{divided, round_div, round_div_ℤ};
 ghost use Rattle.rounding.specs.Rounds.{Rounds, Rounds_ℤ};
 ghost use Rattle.rounding.specs.Internal.{Doubled};
 
-use answer::{Rounded, RoundedSigned};
+use answer::{Mark, Rounded};
 
 #[repr(C)]
-#[derive(Clone, Copy)]
+#[derive(Clone, Copy, Debug, PartialEq, Eq)]
 pub struct Quotient {
     pub quotient: u64,
     pub remainder: u64,
@@ -75,12 +75,15 @@ pub fn divide(n: u64, d: u64) -> Quotient
 }
 
 // n / d rounded once, halves up, and whether that is exact, raised or lowered. By 0 both are 0.
-pub fn round_div(n: u64, d: u64) -> Rounded
+pub fn round_div(n: u64, d: u64) -> Rounded<u64>
     ensures value { result ≡ round_div n d }
     ensures rounds { Rounds n d result }
 {
     if d == 0 {
-        return Rounded { value: 0, mark: 0 };
+        return Rounded {
+            value: 0,
+            mark: Mark::Exact,
+        };
     }
     let divided = divide(n, d);
     let q = divided.quotient;
@@ -88,60 +91,42 @@ pub fn round_div(n: u64, d: u64) -> Rounded
     if rest == 0 {
         return Rounded {
             value: q,
-            mark: answer::EXACT,
+            mark: Mark::Exact,
         };
     }
     let missing = d - rest;
     if missing <= rest {
         return Rounded {
             value: q + 1,
-            mark: answer::RAISED,
+            mark: Mark::Raised,
         };
     }
     Rounded {
         value: q,
-        mark: answer::LOWERED,
+        mark: Mark::Lowered,
     }
 }
 
-// The size of a signed number. (0 - n does not fit at the least one.)
+// The size of a signed number. (It is the library's; its promise and its edits stand here.)
 pub fn size(n: i64) -> u64
     ensures { result ≡ nat_abs n }
 {
-    if n < 0 {
-        let below = -1 - n;
-        return below as u64 + 1;
-    }
-    n as u64
-}
-
-// Minus a size.
-fn negated(size: u64) -> i64
-    requires { size ≤ 9223372036854775808 }
-    ensures { result ≡ neg_ℤ (pos size) }
-{
-    if size == 0 {
-        return 0;
-    }
-    let below = (size - 1) as i64;
-    -1 - below
+    n.unsigned_abs()
 }
 
 // n / d rounded once, halves away from zero, with the mark of its size. By 0 both are 0.
-pub fn round_div_signed(n: i64, d: u64) -> RoundedSigned
+pub fn round_div_signed(n: i64, d: u64) -> Rounded<i64>
     ensures value { result ≡ round_div_ℤ n d }
     ensures rounds { Rounds_ℤ n d result }
 {
-    let quotient = round_div(size(n), d);
-    let value = quotient.value;
-    let mark = quotient.mark;
+    let Rounded { value, mark } = round_div(size(n), d);
     if n < 0 {
-        return RoundedSigned {
-            value: negated(value),
+        return Rounded {
+            value: 0i64.checked_sub_unsigned(value).unwrap(),
             mark,
         };
     }
-    RoundedSigned {
+    Rounded {
         value: value as i64,
         mark,
     }

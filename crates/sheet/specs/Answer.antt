@@ -1,6 +1,7 @@
 -- A sheet's answer as text: a header line, then the two limits or the refusal; CRLF after each line.
 use Rattle.std.specs.Prelude.{cond, List, ◌++◌, ℕ, ◌/◌, ◌%◌, eqb, length}
 use Rattle.answer.specs.declared.Refusal.{Refusal}
+use Rattle.answer.specs.Outcome.{Outcome}
 use Rattle.text.specs.declared.Written.{Written}
 use Rattle.text.specs.Bytes.{bytes}
 use Rattle.text.specs.Decimal.{decimal}
@@ -31,8 +32,11 @@ unfoldable pub answer_text : Limits → List ℕ
 answer_text a = (bytes "answer,record,lower,upper\r\n" ++ answer_line a) ++ bytes "\r\n"
 
 -- written whole at the start of a room, or refusal 17 and the room as it was
+abbrev pub answer_placed : Limits → ℕ → Outcome (List ℕ)
+answer_placed a room = placed room (answer_text a)
+
 abbrev pub answer_written : Limits → List ℕ → Written
-answer_written a room = shown_length (placed (length room) (answer_text a))
+answer_written a room = shown_length (answer_placed a (length room))
 
 abbrev pub answer_room : Limits → List ℕ → List ℕ
-answer_room a room = holding room (placed (length room) (answer_text a))
+answer_room a room = holding room (answer_placed a (length room))

@@ -1,4 +1,3 @@
 pub mod Mixture
 pub mod ByModel
 pub mod Answer
-pub mod Internal

@@ -1,22 +1,19 @@
 // The mixture sheet: its answer, and the answer as text.
 #![tactic(auto)]
 
-ghost use Rattle.std.specs.Prelude.{◌≡◌, true};
-ghost use Rattle.std.proofs.Math.Option.{none, get_or};
-ghost use Rattle.answer.specs.Outcome.{refused, refusal};
-ghost use Rattle.text.specs.Bytes.{byte};
+ghost use Rattle.std.specs.Prelude.{◌≡◌, true, None};
+ghost use Rattle.answer.specs.Outcome.{told};
 ghost use Rattle.text.specs.Decimal.{digit_from};
 ghost use Rattle.csv_form.specs.Lines.{all};
 ghost use Rattle.csv_form.specs.Sheet.{records, first_bad_record};
 ghost use Rattle.blend.specs.Fuel.{text as fuel-text};
-ghost use Rattle.blend.specs.Blend.{empty_blend, adding, shown_blend, shown_limits};
-ghost use Rattle.sheet.specs.Mixture.{is_parts, good_mixture, spelled_from, record_formula, record_parts, adding_all, sheet_answer};
+ghost use Rattle.blend.specs.Blend.{empty_blend, adding};
+ghost use Rattle.sheet.specs.Mixture.{is_parts, good_mixture, spelled_from, record_formula, parts_field, record_parts, at_record, adding_all, sheet_answer};
 ghost use Rattle.sheet.specs.ByModel.{ByModel};
-ghost use Rattle.sheet.specs.Internal.{Splits};
 
-use answer::Refusal;
-use blend::{Blend, Blended, Limits, add_fuel_text, blend_limits, empty_blend, no_limits};
-use csv_form::{field_at, is_formed, is_headed, line_at};
+use answer::{Reason, Refused, Rounded};
+use blend::{Blend, LimitPair, add_fuel_text, blend_limits, empty_blend};
+use csv_form::{field_at, is_formed, is_headed, records};
 use text::is_digit_from;
 
 mod report;
@@ -26,166 +23,91 @@ pub use report::write_answer;
 fn all_digits(s: &[u8]) -> bool
     ensures { result ≡ all (digit_from 0) s.now }
 {
-    let mut i = 0;
-    while i < s.len() {
-        if !is_digit_from(0, s[i]) {
-            return false;
-        }
-        i += 1;
-    }
-    true
+    s.iter().all(|b| is_digit_from(0, *b))
 }
 
 // Whether s is parts: 1 to 7 digits without leading zero, or 0.
+#[tactic(auto, unfolding(crate::specs::Mixture::is_parts))]
 fn is_parts(s: &[u8]) -> bool
     ensures { result ≡ is_parts s.now }
 {
-    if !all_digits(s) {
-        return false;
-    }
-    if s.len() == 0 {
-        return false;
-    }
-    if 7 < s.len() {
-        return false;
-    }
-    s.len() == 1 || s[0] != b'0'
+    all_digits(s) && 1 <= s.len() && s.len() <= 7 && (s.len() == 1 || s[0] != b'0')
 }
 
-// The two fields of a record: where the formula ends, and where the parts begin and end.
-#[derive(Clone, Copy)]
-struct Columns {
-    formula: usize,
-    start: usize,
-    end: usize,
-}
-
-fn split(l: &[u8]) -> Columns
-    ensures { Splits l.now result }
+// The formula and the parts of a record.
+#[tactic(auto, using(crate::proofs::Records::columns_order, crate::proofs::Records::formula_is, crate::proofs::Records::parts_is))]
+fn split(l: &[u8]) -> (&[u8], &[u8])
+    ensures formula { result.0.now ≡ record_formula l.now }
+    ensures parts { result.1.now ≡ parts_field l.now }
 {
     let formula = field_at(l, 0);
-    let start = formula.next;
-    let parts = field_at(l, start);
-    Columns {
-        formula: formula.end,
-        start,
-        end: parts.end,
-    }
+    let parts = field_at(l, formula.next);
+    (&l[..formula.end], &l[formula.next..parts.end])
 }
 
 // Whether a line is a good record.
+#[tactic(auto, unfolding(csv_form::specs::Sheet::good_record))]
 fn is_record(l: &[u8]) -> bool
     ensures { result ≡ good_mixture l.now }
 {
-    if !is_formed(l, 2) {
-        return false;
-    }
-    let columns = split(l);
-    let start = columns.start;
-    let end = columns.end;
-    is_parts(&l[start..end])
+    is_formed(l, 2) && is_parts(split(l).1)
 }
 
-// The number of the first bad record, 0 where there is none.
-fn first_bad_record(s: &[u8]) -> u64
-    ensures { result ≡ get_or (first_bad_record good_mixture (records s.now)) 0 }
+// The number of the first bad record.
+fn first_bad_record(s: &[u8]) -> Option<u64>
+    ensures { result ≡ first_bad_record good_mixture (records s.now) }
 {
-    let header = line_at(s, 0);
-    let mut at = header.next;
-    let mut passed: u64 = 0;
-    while at < s.len() {
-        let line = line_at(s, at);
-        let end = line.end;
-        if !is_record(&s[at..end]) {
-            return passed + 1;
-        }
-        at = line.next;
-        passed += 1;
-    }
-    0
+    records(s)
+        .position(|record| !is_record(record))
+        .map(|passed| passed as u64 + 1)
 }
 
-// The number that digits spell.
+// The number that digits spell. (The library parses text, and not bytes that are known to be digits.)
+#[tactic(auto, using(crate::proofs::Parts::parts_digit, crate::proofs::Parts::spelling_small, crate::proofs::Parts::spelling_ends))]
 fn spelled(s: &[u8]) -> u64
     requires { is_parts s.now ≡ true }
     ensures { result ≡ spelled_from 0 s.now }
 {
     let mut n: u64 = 0;
-    let mut i = 0;
-    while i < s.len() {
-        let digit = s[i] - b'0';
-        n = 10 * n + digit as u64;
-        i += 1;
+    for digit in s {
+        n = 10 * n + (*digit - b'0') as u64;
     }
     n
 }
 
-// The blend with a good record's parts of its fuel more.
-fn add_record(b: Blend, l: &[u8]) -> Blended
+// The blend with a good record's parts of its fuel more, or the refusal with the record's place.
+fn add_record(b: Blend, place: u64, l: &[u8]) -> Result<Blend, Refused>
     requires { good_mixture l.now ≡ true }
-    ensures { result ≡ shown_blend b (adding b (fuel-text (record_formula l.now)) (record_parts l.now)) }
+    ensures { told result ≡ at_record place (adding b (fuel-text (record_formula l.now)) (record_parts l.now)) }
 {
-    let columns = split(l);
-    let formula = columns.formula;
-    let start = columns.start;
-    let end = columns.end;
-    let parts = spelled(&l[start..end]);
-    add_fuel_text(b, &l[..formula], parts)
+    let (formula, parts) = split(l);
+    add_fuel_text(b, formula, spelled(parts)).map_err(|refused| refused.reason.at(place))
 }
 
 // The blend of all records, which are good, or the first refusal with its record.
-fn add_records(s: &[u8]) -> Blended
-    requires { first_bad_record good_mixture (records s.now) ≡ none }
-    ensures { result ≡ shown_blend empty_blend (adding_all empty_blend 1 (records s.now)) }
+fn add_records(s: &[u8]) -> Result<Blend, Refused>
+    requires { first_bad_record good_mixture (records s.now) ≡ None }
+    ensures { told result ≡ adding_all empty_blend 1 (records s.now) }
 {
-    let header = line_at(s, 0);
     let mut blend = empty_blend();
-    let mut at = header.next;
-    let mut passed: u64 = 0;
-    while at < s.len() {
-        let line = line_at(s, at);
-        let end = line.end;
-        let added = add_record(blend, &s[at..end]);
-        let declined = added.refusal;
-        if 0 < declined.number {
-            return refused_at(declined.number, passed + 1);
-        }
-        blend = added.blend;
-        at = line.next;
-        passed += 1;
+    for (passed, record) in records(s).enumerate() {
+        blend = add_record(blend, passed as u64 + 1, record)?;
     }
-    Blended {
-        refusal: answer::NOT_REFUSED,
-        blend,
-    }
-}
-
-fn refused_at(number: u64, place: u64) -> Blended
-    ensures { result ≡ shown_blend empty_blend (refused (refusal number place)) }
-{
-    Blended {
-        refusal: Refusal { number, place },
-        blend: empty_blend(),
-    }
+    Ok(blend)
 }
 
 // Both limits of the mixture that a sheet lists, with no temperature named. Refusals: 15 with place 0 for a longer sheet or another header, else with the
 // first bad record; then 1, 2, 3, 4, 8 with the first record that has one; then 9.
-pub fn sheet_answer(sheet: &[u8]) -> Limits
-    ensures value { result ≡ shown_limits (sheet_answer sheet.now) }
+#[tactic(auto, unfolding(crate::specs::Mixture::sheet_answer))]
+pub fn sheet_answer(sheet: &[u8]) -> Result<LimitPair<Rounded<u64>>, Refused>
+    ensures value { told result ≡ sheet_answer sheet.now }
     ensures by_model { ByModel sheet.now }
 {
     if !is_headed(sheet, b"formula,parts") {
-        return no_limits(answer::BAD_SHEET, 0);
+        return Err(Reason::BadSheet.at(0));
     }
-    let bad = first_bad_record(sheet);
-    if 0 < bad {
-        return no_limits(answer::BAD_SHEET, bad);
+    if let Some(place) = first_bad_record(sheet) {
+        return Err(Reason::BadSheet.at(place));
     }
-    let all = add_records(sheet);
-    let declined = all.refusal;
-    if 0 < declined.number {
-        return no_limits(declined.number, declined.place);
-    }
-    blend_limits(all.blend)
+    blend_limits(add_records(sheet)?)
 }

@@ -1,8 +1,8 @@
-// The functions that tests call from outside, tests/testing.h: each with the promise of the function that it calls.
+// The functions that tests call from outside, tests/testing.h: each with the promise of the function that it calls. A curve comes in as two lists, and an
+// analyser's method as two floats, since C hands them so.
 #![tactic(auto)]
 
-ghost use Rattle.std.specs.Prelude.{◌≡◌, ◌≤◌};
-ghost use Rattle.std.proofs.Math.Option.{some};
+ghost use Rattle.std.specs.Prelude.{◌≡◌, ◌≤◌, Some};
 ghost use Rattle.answer.specs.Outcome.{shown_figure, shown_temperature, shown_rounded, shown_rounded_temperature};
 ghost use Rattle.rounding.specs.Round.{divided};
 ghost use Rattle.text.specs.Writing.{Longest};
@@ -43,14 +43,14 @@ pub extern "C" fn jlt_flash_by_bonds(
 ) -> RoundedTemperature
     ensures { result ≡ shown_rounded_temperature (by_bonds method atoms bonds boiling) }
 {
-    flash::flash_by_bonds(method, atoms, bonds, boiling)
+    flash::flash_by_bonds(method, atoms, bonds, boiling).into()
 }
 
 #[unsafe(no_mangle)]
 pub extern "C" fn jlt_flash_by_class(class: u64, boiling: i64) -> RoundedTemperature
     ensures { result ≡ shown_rounded_temperature (by_class class boiling) }
 {
-    flash::flash_by_class(class, boiling)
+    flash::flash_by_class(class, boiling).into()
 }
 
 #[unsafe(no_mangle)]
@@ -64,7 +64,7 @@ pub extern "C" fn jlt_flash_by_curve(
     ensures value { result ≡ shown_temperature (flash_by_curve method fuel diffusion (curve temperatures.now pressures.now)) }
     ensures sound { Sound (curve temperatures.now pressures.now) }
 {
-    ignition::flash_by_curve(method, fuel, diffusion, temperatures, pressures)
+    ignition::flash_by_curve(method, fuel, diffusion, temperatures, pressures).into()
 }
 
 #[unsafe(no_mangle)]
@@ -76,7 +76,7 @@ pub extern "C" fn jlt_lower_temperature_limit(
     ensures value { result ≡ shown_temperature (lower_temperature_limit fuel (curve temperatures.now pressures.now)) }
     ensures sound { Sound (curve temperatures.now pressures.now) }
 {
-    ignition::lower_temperature_limit(fuel, temperatures, pressures)
+    ignition::lower_temperature_limit(fuel, temperatures, pressures).into()
 }
 
 #[unsafe(no_mangle)]
@@ -84,7 +84,7 @@ pub extern "C" fn jlt_parts_of_percent(limit: f64, ceiling: f64, reading: f64) -
     ensures value { result ≡ shown_rounded (parts_of (method_of limit ceiling) (Percent reading)) }
     ensures at_most { result.value ≤ 1000000 }
 {
-    analyser::parts_of(Method { limit, ceiling }, Reading::Percent(reading))
+    analyser::parts_of(Method { limit, ceiling }, Reading::Percent(reading)).into()
 }
 
 #[unsafe(no_mangle)]
@@ -92,7 +92,7 @@ pub extern "C" fn jlt_parts_of_ppm(limit: f64, ceiling: f64, reading: f64) -> Ro
     ensures value { result ≡ shown_rounded (parts_of (method_of limit ceiling) (Ppm reading)) }
     ensures at_most { result.value ≤ 1000000 }
 {
-    analyser::parts_of(Method { limit, ceiling }, Reading::Ppm(reading))
+    analyser::parts_of(Method { limit, ceiling }, Reading::Ppm(reading)).into()
 }
 
 #[unsafe(no_mangle)]
@@ -100,23 +100,23 @@ pub extern "C" fn jlt_parts_of_overload(limit: f64, ceiling: f64) -> RoundedFigu
     ensures value { result ≡ shown_rounded (parts_of (method_of limit ceiling) Overload) }
     ensures at_most { result.value ≤ 1000000 }
 {
-    analyser::parts_of(Method { limit, ceiling }, Reading::Overload)
+    analyser::parts_of(Method { limit, ceiling }, Reading::Overload).into()
 }
 
 #[unsafe(no_mangle)]
 pub extern "C" fn jlt_add_fuel(blend: Blend, fuel: Atoms, parts: u64) -> Blended
     ensures { result ≡ shown_blend blend (adding blend (counts fuel) parts) }
 {
-    blend::add_fuel(blend, fuel, parts)
+    Blended::of(blend, blend::add_fuel(blend, fuel, parts))
 }
 
 #[unsafe(no_mangle)]
 pub extern "C" fn jlt_fuel_limits_at(fuel: Atoms, temperature: i64) -> Limits
-    ensures value { result ≡ shown_limits (fuel_limits (some temperature) fuel) }
+    ensures value { result ≡ shown_limits (fuel_limits (Some temperature) fuel) }
     ensures at_most { (result.lower ≤ 10000) × (result.upper ≤ 10000) }
-    ensures as_blend { AsBlend (counts fuel) (some temperature) }
+    ensures as_blend { AsBlend (counts fuel) (Some temperature) }
 {
-    limits::fuel_limits_at(fuel, temperature)
+    limits::fuel_limits_at(fuel, temperature).into()
 }
 
 #[unsafe(no_mangle)]
@@ -124,7 +124,7 @@ pub extern "C" fn jlt_oxygen_coefficient(fuel: Atoms) -> Figure
     ensures value { result ≡ shown_figure (oxygen_coefficient fuel) }
     ensures bounded { result.value ≤ 3800 }
 {
-    oxygen::oxygen_coefficient(fuel)
+    oxygen::oxygen_coefficient(fuel).into()
 }
 
 #[unsafe(no_mangle)]
@@ -132,7 +132,7 @@ pub extern "C" fn jlt_sheet_answer(sheet: &[u8]) -> Limits
     ensures value { result ≡ shown_limits (sheet_answer sheet.now) }
     ensures by_model { ByModel sheet.now }
 {
-    sheet::sheet_answer(sheet)
+    sheet::sheet_answer(sheet).into()
 }
 
 #[unsafe(no_mangle)]
@@ -153,5 +153,5 @@ pub extern "C" fn jlt_write_sheet_answer(
         lower_mark: 0,
         upper_mark: 0,
     };
-    sheet::write_answer(answer, out)
+    sheet::write_answer(answer, out).into()
 }

@@ -1,14 +1,12 @@
 -- Laws of decimal digits: the last digit and those before it, and the digits of numbers below 1000.
 use mathlib.Core.Path.{◌≡◌, refl, sym, ap, ap₂, ◌∙◌}
 use mathlib.Core.Bool.{Bool, true, false, and-false}
-use mathlib.Core.List.{List, [], ◌∷◌, ◌++◌, append_assoc, append-nil}
+use mathlib.Core.List.{List, [], ◌∷◌, ◌++◌}
 use Prim.Native.Nat.{ℕ, zero, suc, ◌+◌, ◌*◌, ◌-◌, ◌≤◌, ◌<◌, ◌/◌, ◌%◌, ◌^◌}
 use native.Mathlib.Nat.{pow-suc, div-lt_iff_lt-mul}
-use native.Mathlib.Numerals.{add-one}
 use native.Mathlib.Decide.{dec_lt}
 use native.Mathlib.Omega.{arith}
-use lib.ListN.{length, take, drop, set, length-set, length-append, drop_of_length-le}
-use lib.Seq.{set_split, drop_at, length-take-le}
+use lib.ListN.{length, length-append}
 use lib.Dec.{leb, ltb}
 use borrow.Author.Tests.{lt-ltb, le-ltb, ltb-false, le-leb, lt-leb, leb-true}
 use Rattle.text.specs.Decimal.{decimal, decimal_by, digit_from}
@@ -54,55 +52,6 @@ decimal-two n l h = decimal-more n l ∙ ap (λ (w : List ℕ). w ++ (48 + n % 1
 pub decimal-three : (n : ℕ) → 100 ≤ n → n < 1000 → decimal n ≡ (48 + n / 10 / 10) ∷ (48 + n / 10 % 10) ∷ (48 + n % 10) ∷ []
 decimal-three n l h = decimal-more n (omega arith) ∙ ap (λ (w : List ℕ). w ++ (48 + n % 10) ∷ []) (decimal-two (n / 10) (omega arith) (omega arith))
 
--- DIGITS FROM THE LAST TO THE FIRST, in an array of 20 bytes: those of `left` are still to be written, in front of what stands behind `at`.
-pub record Spelling (n : ℕ) (array : List ℕ) (at left : ℕ) : Type 0 where
-  pub room : at < 20
-  pub sized : length array ≡ 20
-  pub small : left < 10 ^ (at + 1)
-  pub whole : decimal n ≡ decimal left ++ drop (at + 1) array
-
-pub spelling-starts : (n : ℕ) (array : List ℕ) → n < 10 ^ 20 → length array ≡ 20 → Spelling n array 19 n
-spelling-starts n array l e = record {
-  room = omega arith;
-  sized = e;
-  small = l;
-  whole = sym (ap (λ (w : List ℕ). decimal n ++ w) (drop_of_length-le array {i = 20} (omega arith)) ∙ append-nil (decimal n));
-}
-
-drop-set : (array : List ℕ) (at x : ℕ) → at < length array → drop at (set array at x) ≡ x ∷ drop (at + 1) array
-drop-set array at x l =
-    ap (drop at) (set_split array at x l)
-    ∙ drop_at (take at array) (x ∷ drop (suc at) array) at (length-take-le at array (omega arith))
-    ∙ rw (sym (add-one at))
-
-module _ (n : ℕ) (array : List ℕ) where
-  -- there is room for the digits that are left
-  pub spelling-room : (at left : ℕ) → Spelling n array at left → 9 < left → 1 ≤ at
-  spelling-room zero left h l = absurd (omega (arith, h.small))
-  spelling-room (suc at) left h l = omega arith
-
-  pub spelling-more : (at left : ℕ) → Spelling n array at left → 9 < left → Spelling n (set array at (48 + left % 10)) (at - 1) (left / 10)
-  spelling-more zero left h l = absurd (omega (arith, h.small))
-  spelling-more (suc at) left h l =
-      let back : suc at - 1 + 1 ≡ suc at = omega arith in
-      let power : 10 ^ (suc at + 1) ≡ 10 ^ suc at * 10 = ap (λ (k : ℕ). 10 ^ k) (add-one (suc at)) ∙ pow-suc 10 (suc at) in
-      let ten : 0 < 10 = omega arith in
-      let inside : suc at < length array = omega (arith, h.room, h.sized) in
-      record {
-        room = omega (arith, h.room);
-        sized = length-set array (suc at) (48 + left % 10) ∙ h.sized;
-        small = rw back ((div-lt_iff_lt-mul ten).1 (omega (arith, h.small)));
-        whole = h.whole ∙ ap (λ (w : List ℕ). w ++ drop (suc at + 1) array) (decimal-more left l)
-            ∙ append_assoc (decimal (left / 10)) ((48 + left % 10) ∷ []) (drop (suc at + 1) array)
-            ∙ ap (λ (w : List ℕ). decimal (left / 10) ++ w) (sym (drop-set array (suc at) (48 + left % 10) inside))
-            ∙ rw back;
-      }
-
-  pub spelling-ends : (at left : ℕ) → Spelling n array at left → left ≤ 9 → drop at (set array at (48 + left)) ≡ decimal n
-  spelling-ends at left h l =
-      drop-set array at (48 + left) (omega (arith, h.room, h.sized))
-      ∙ sym (h.whole ∙ ap (λ (w : List ℕ). w ++ drop (at + 1) array) (decimal-one left (omega arith)))
-
 pub decimal-short : (n : ℕ) → n < 1000 → length (decimal n) ≤ 3
 decimal-short n l = go (dec_lt n 10) (dec_lt n 100)
   where
@@ -139,3 +88,9 @@ digit-above k b l = rw (lt-leb b 57 l, and-false (leb (48 + k) b))
 pub digit-bounds : (k b : ℕ) → digit_from k b ≡ true → (48 + k ≤ b) × (b ≤ 57)
 unfolding digit_from
 digit-bounds k b e = let h = both (leb (48 + k) b) (leb b 57) e in (leb-true (48 + k) b h.0, leb-true b 57 h.1)
+
+-- what the recursion on the digits before the last asks: there are at most 19 of them in 64 bits
+pub before_last : (n : ℕ) → n < 2 ^ 64 → length (decimal (n / 10)) < 20
+before_last n l = omega (arith, decimal-length 18 (n / 10) (omega arith))
+
+pub ruleset by_last_digit = (decimal-one, decimal-more, before_last)

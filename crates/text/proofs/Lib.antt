@@ -1,4 +1,5 @@
 pub mod Rooms
+pub mod Lines
 pub mod Decimals
 pub mod Beginnings
 pub mod Readers

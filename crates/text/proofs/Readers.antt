@@ -2,7 +2,7 @@
 use mathlib.Core.Path.{◌≡◌, refl, sym, ap, ◌∙◌}
 use mathlib.Core.Bool.{Bool, true, false}
 use mathlib.Core.List.{List, [], ◌∷◌}
-use mathlib.Core.Option.{some, none, none-ne-some}
+use Rattle.std.specs.Prelude.{Some, None}
 use Prim.Native.Nat.{ℕ, ◌-◌, ◌≤◌, ◌<◌}
 use native.Mathlib.Omega.{arith}
 use native.Mathlib.Decide.{dec_lt}
@@ -41,6 +41,6 @@ pub left-from : (s : List ℕ) (p : ℕ) → p ≤ length s → length s - lengt
 left-from s p l = omega (arith, length-drop p s)
 
 -- of a reader that reads each text of L to its end, a text that it leaves before is none of L
-pub not-read : {A : Type 0} (L : List ℕ → Type 0) (read : List ℕ → Result A) → ((t : List ℕ) → L t → left_at 0 (read t) ≡ none)
-    → (t : List ℕ) (x : Result A) (p : ℕ) → read t ≡ x → left_at 0 x ≡ some p → ¬ (L t)
-not-read L read whole t x p e l h = none-ne-some p (sym (whole t h) ∙ ap (left_at 0) e ∙ l)
+pub not-read : {A : Type 0} (L : List ℕ → Type 0) (read : List ℕ → Result A) → ((t : List ℕ) → L t → left_at 0 (read t) ≡ None)
+    → (t : List ℕ) (x : Result A) (p : ℕ) → read t ≡ x → left_at 0 x ≡ Some p → ¬ (L t)
+not-read L read whole t x p e l h = let both : None ≡ Some p = sym (whole t h) ∙ ap (left_at 0) e ∙ l in cc

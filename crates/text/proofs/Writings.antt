@@ -8,9 +8,13 @@ use borrow.Author.Tests.{lt-ltb, le-ltb}
 use lib.ListN.{length}
 use Rattle.answer.specs.Numbers.{no_room}
 use Rattle.answer.specs.Outcome.{Outcome, refused, answered, refusal}
-use Rattle.text.specs.Room.{put_at}
-use Rattle.text.specs.Writing.{placed, shown_length, holding, Longest}
+use Rattle.text.specs.Writing.{placed, length_of, shown_written, shown_length, holding, Longest}
 use Rattle.text.proofs.Rooms.{put-length}
+
+-- a length as C is shown it
+pub length_shown : (o : Outcome (List ℕ)) → shown_written (length_of o) ≡ shown_length o
+length_shown (refused r) = refl
+length_shown (answered t) = refl
 
 module _ (room t : List ℕ) where
   pub placed-no : length room < length t → placed (length room) t ≡ refused (refusal 17 0)
@@ -20,14 +24,6 @@ module _ (room t : List ℕ) where
   pub placed-yes : length t ≤ length room → placed (length room) t ≡ answered t
   unfolding placed
   placed-yes l = rw (le-ltb (length room) (length t) l)
-
-  pub placed-not : length room < length t
-      → (shown_length (refused (refusal 17 0)) ≡ shown_length (placed (length room) t)) × (room ≡ holding room (placed (length room) t))
-  placed-not l = rw (placed-no l) (refl, refl)
-
-  pub placed-whole : length t ≤ length room → (out : List ℕ) → out ≡ put_at room 0 t
-      → (shown_length (answered t) ≡ shown_length (placed (length room) t)) × (out ≡ holding room (placed (length room) t))
-  placed-whole l out e = rw (placed-yes l) (refl, e)
 
   -- the room keeps its size, and no answer is longer
   pub holding-length : (o : Outcome (List ℕ)) → length (holding room o) ≡ length room
@@ -43,12 +39,12 @@ module _ (room t : List ℕ) where
 
 -- how long the text can be: one that is placed, and none where there is another refusal
 module _ (n : ℕ) (room : List ℕ) where
-  pub placed-longest : (t : List ℕ) → length t ≤ n → Longest n room (shown_length (placed (length room) t))
+  pub placed-longest : (t : List ℕ) → length t ≤ n → Longest n room (shown_written (length_of (placed (length room) t)))
   placed-longest t l = go (dec_lt (length room) (length t))
     where
-      go : Dec (length room < length t) → Longest n room (shown_length (placed (length room) t))
+      go : Dec (length room < length t) → Longest n room (shown_written (length_of (placed (length room) t)))
       go (yes h) = rw (placed-no room t h) (record { most = omega arith; holds = λ k e. omega arith })
       go (no h) = rw (placed-yes room t (omega arith)) (record { most = l; holds = λ k e. omega arith })
 
-  pub refused-longest : (k p : ℕ) → (k ≡ no_room → ⊥) → Longest n room (shown_length (refused (refusal k p)))
+  pub refused-longest : (k p : ℕ) → (k ≡ no_room → ⊥) → Longest n room (shown_written (refused (refusal k p)))
   refused-longest k p other = record { most = omega arith; holds = λ l e. other e }

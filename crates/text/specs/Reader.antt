@@ -1,6 +1,5 @@
 -- A reader takes the beginning of a text: what it has read, and what is left of the text.
-use Rattle.std.specs.Prelude.{List, [], ◌∷◌, ℕ, ◌-◌, length, get_or}
-use Rattle.std.proofs.Math.Option.{Option, some, none}
+use Rattle.std.specs.Prelude.{List, [], ◌∷◌, ℕ, ◌-◌, length, get_or, Option, Some, None}
 
 -- the byte at i, 0 past the end
 abbrev pub at : List ℕ → ℕ → ℕ
@@ -14,9 +13,9 @@ pub data Result (A : Type 0) : Type 0 where
 module _ {A : Type 0} where
   -- where a text of n bytes is left before its end, if it is
   abbrev pub left_at : ℕ → Result A → Option ℕ
-  left_at n (ok a []) = none
-  left_at n (ok a (b ∷ t)) = some (n - length (b ∷ t))
-  left_at n (stuck t) = some (n - length t)
+  left_at n (ok a []) = None
+  left_at n (ok a (b ∷ t)) = Some (n - length (b ∷ t))
+  left_at n (stuck t) = Some (n - length t)
 
   -- what was read, `otherwise` where the reader is stuck
   abbrev pub value_read : A → Result A → A

@@ -9,7 +9,15 @@ use Rattle.text.specs.Room.{put_at}
 unfoldable pub placed : ℕ → List ℕ → Outcome (List ℕ)
 placed n t = refuse no_room 0 (ltb n (length t)) (answered t)
 
--- the answer: the text's length, and 0 with a refusal
+-- the answer: the text's length
+abbrev pub length_of : Outcome (List ℕ) → Outcome ℕ
+length_of (refused r) = refused r
+length_of (answered t) = answered (length t)
+
+-- a length as C is shown it, 0 with a refusal; and the length of a text so
+abbrev pub shown_written : Outcome ℕ → Written
+shown_written o = record { refusal = refusal_of o; length = value_of 0 o }
+
 abbrev pub shown_length : Outcome (List ℕ) → Written
 shown_length o = record { refusal = refusal_of o; length = length (value_of [] o) }
 

@@ -1,93 +1,69 @@
-// Bytes of text: reading one, and putting text and numbers into a lent buffer.
+// Bytes of text: reading one, appending text and numbers to a line, and writing a whole text into a lent buffer.
 #![tactic(auto)]
 
-ghost use Rattle.std.specs.Prelude.{◌≡◌, ◌+◌, ◌≤◌, ◌<◌, length, get_or, drop};
-ghost use Rattle.answer.specs.Outcome.{refused, refusal};
+ghost use Rattle.std.specs.Prelude.{◌≡◌, ◌+◌, ◌<◌, length, get_or};
+ghost use Rattle.answer.specs.Outcome.{told};
 ghost use Rattle.text.specs.Bytes.{byte};
 ghost use Rattle.text.specs.Decimal.{decimal, digit_from};
-ghost use Rattle.text.specs.Room.{put_at, behind};
-ghost use Rattle.text.specs.Writing.{placed, shown_length, holding};
+ghost use Rattle.text.specs.Line.{appended};
+ghost use Rattle.text.specs.Writing.{placed, length_of, shown_written, holding};
 
-use answer::Refusal;
+use answer::{Reason, Refusal, Refused};
+use arrayvec::ArrayVec;
 
-// The length of a text that was written, or a refusal and 0.
+// The length of a text that was written, or a refusal and 0, for the C interface.
 #[repr(C)]
-#[derive(Clone, Copy)]
+#[derive(Clone, Copy, Debug, PartialEq, Eq)]
 pub struct Written {
     pub refusal: Refusal,
     pub length: u64,
 }
 
-// The byte at a position, 0 at the end and past it.
+impl From<Result<usize, Refused>> for Written {
+    ghost from_gives = { λ answer written. written ≡ shown_written (told answer) };
+
+    fn from(answer: Result<usize, Refused>) -> Written {
+        Written {
+            refusal: Refusal::of(answer),
+            length: answer.unwrap_or(0) as u64,
+        }
+    }
+}
+
+// The byte at a position; 0 at the end and past it, which the clause promises: `at` of specs/Reader, by which formulas are read.
 pub fn byte_at(s: &[u8], at: usize) -> u8
     ensures { result ≡ get_or s.now at 0 }
 {
-    if at < s.len() { s[at] } else { 0 }
+    s.get(at).copied().unwrap_or(0)
 }
 
 // Whether b is the byte of a decimal digit that is not below `from`.
+#[tactic(auto, unfolding(crate::specs::Decimal::digit_from))]
 pub fn is_digit_from(from: u8, b: u8) -> bool
     ensures { result ≡ digit_from from b }
 {
-    if b < b'0' {
-        return false;
-    }
-    if b - b'0' < from {
-        return false;
-    }
-    b <= b'9'
+    b.is_ascii_digit() && from <= b - b'0'
 }
 
-// Copies s to a position of out where it fits.
-fn copy(out: &mut [u8], at: usize, s: &[u8])
-    requires { at + length s.now ≤ length out.old }
-    ensures { out.new ≡ put_at out.old at s.now }
+// Appends s to a line, where it fits; else the line stays.
+#[tactic(auto, unfolding(crate::specs::Line::appended))]
+pub fn put<const N: usize>(line: &mut ArrayVec<u8, N>, s: &[u8])
+    ensures { line.new.items ≡ appended N line.old.items s.now }
 {
-    let mut i = 0;
-    while i < s.len() {
-        out[at + i] = s[i];
-        i += 1;
-    }
-}
-
-// Puts s into out at a position, and answers the position behind it. Where it does not fit, out stays and the answer is the given position.
-pub fn put(out: &mut [u8], at: usize, s: &[u8]) -> usize
-    ensures value { result ≡ behind out.old at s.now }
-    ensures room { out.new ≡ put_at out.old at s.now }
-{
-    if out.len() < s.len() {
-        return at;
-    }
-    if out.len() - s.len() < at {
-        return at;
-    }
-    copy(out, at, s);
-    at + s.len()
-}
-
-// No text, for a refusal.
-pub fn refused_text(number: u64, place: u64) -> Written
-    ensures { result ≡ shown_length (refused (refusal number place)) }
-{
-    Written {
-        refusal: Refusal { number, place },
-        length: 0,
-    }
+    let _fits = line.try_extend_from_slice(s);
 }
 
 // Writes s whole at the start of out, and answers its length; the bytes behind it stay. Refusal 17 where out is too short, which leaves all of out as it was.
-pub fn write_whole(out: &mut [u8], s: &[u8]) -> Written
-    ensures value { result ≡ shown_length (placed (length out.old) s.now) }
+#[tactic(auto, unfolding(crate::specs::Room::put_at, crate::specs::Writing::placed))]
+pub fn write_whole(out: &mut [u8], s: &[u8]) -> Result<usize, Refused>
+    ensures value { told result ≡ length_of (placed (length out.old) s.now) }
     ensures room { out.new ≡ holding out.old (placed (length out.old) s.now) }
 {
-    if s.len() > out.len() {
-        return refused_text(answer::NO_ROOM, 0);
+    if out.len() < s.len() {
+        return Err(Reason::NoRoom.at(0));
     }
-    copy(out, 0, s);
-    Written {
-        refusal: answer::NOT_REFUSED,
-        length: s.len() as u64,
-    }
+    out[..s.len()].copy_from_slice(s);
+    Ok(s.len())
 }
 
 // The byte of a digit.
@@ -98,63 +74,24 @@ fn digit(n: u64) -> u8
     b'0' + n as u8
 }
 
-// A number's decimal digits, at the end of the array from a position on.
-#[derive(Clone, Copy)]
-struct Digits {
-    bytes: [u8; 20],
-    start: usize,
-}
-
-fn digits_of(n: u64) -> Digits
-    ensures { (result.start ≤ 20) × (length result.bytes ≡ 20) × (drop result.start result.bytes ≡ decimal n) }
+// The decimal digits of n, by recursion on those before the last. By hand, since the library prints a number by dividing, and nothing divides but `rounding`.
+#[tactic(auto, using(crate::proofs::Decimals::by_last_digit))]
+fn digits_of(n: u64) -> ArrayVec<u8, 20>
+    ensures { result.items ≡ decimal n }
 {
-    let mut bytes = [0u8; 20];
-    let mut at: usize = 19;
-    let mut left = n;
-    while 9 < left {
-        let by_ten = rounding::divide(left, 10);
-        bytes[at] = digit(by_ten.remainder);
-        left = by_ten.quotient;
-        at -= 1;
-    }
-    bytes[at] = digit(left);
-    Digits { bytes, start: at }
-}
-
-// Puts the decimal digits of a number below 1000 into out at a position, as put does.
-fn put_short(out: &mut [u8], at: usize, n: u64) -> usize
-    requires { n < 1000 }
-    ensures value { result ≡ behind out.old at (decimal n) }
-    ensures room { out.new ≡ put_at out.old at (decimal n) }
-{
-    if n < 10 {
-        let one = [digit(n)];
-        return put(out, at, &one);
-    }
     let by_ten = rounding::divide(n, 10);
-    if n < 100 {
-        let two = [digit(by_ten.quotient), digit(by_ten.remainder)];
-        return put(out, at, &two);
-    }
-    let again = rounding::divide(by_ten.quotient, 10);
-    let three = [
-        digit(again.quotient),
-        digit(again.remainder),
-        digit(by_ten.remainder),
-    ];
-    put(out, at, &three)
+    let mut digits = if n < 10 {
+        ArrayVec::new()
+    } else {
+        digits_of(by_ten.quotient)
+    };
+    digits.push(digit(by_ten.remainder));
+    digits
 }
 
-// Puts the decimal digits of n into out at a position, as put does.
-pub fn put_decimal(out: &mut [u8], at: usize, n: u64) -> usize
-    ensures value { result ≡ behind out.old at (decimal n) }
-    ensures room { out.new ≡ put_at out.old at (decimal n) }
+// Appends the decimal digits of n to a line, as put does.
+pub fn put_decimal<const N: usize>(line: &mut ArrayVec<u8, N>, n: u64)
+    ensures { line.new.items ≡ appended N line.old.items (decimal n) }
 {
-    if n < 1000 {
-        return put_short(out, at, n);
-    }
-    let digits = digits_of(n);
-    let bytes = digits.bytes;
-    let start = digits.start;
-    put(out, at, &bytes[start..])
+    put(line, &digits_of(n))
 }

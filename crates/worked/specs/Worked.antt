@@ -1,7 +1,6 @@
 -- The worked examples: the figures that document 01 marks for proof, as change requests amend them, and figures added with those; each question with its
 -- printed answer as the answer's struct has it, and each rounded figure with its mark: 0 exact, 1 raised, 2 lowered.
-use Rattle.std.specs.Prelude.{◌≡◌, List, [], ◌∷◌, false, cond, ℕ, zero, suc, ◌^◌, eqb, ℤ, pos, neg_ℤ, Float}
-use Rattle.std.proofs.Math.Option.{some, none}
+use Rattle.std.specs.Prelude.{◌≡◌, List, [], ◌∷◌, false, cond, ℕ, zero, suc, ◌^◌, eqb, ℤ, pos, neg_ℤ, Float, Some, None}
 use Prim.Native.String.{String}
 use Rattle.std.specs.Float.{binary64}
 use Rattle.std.specs.Float.Ieee.{round}
@@ -120,9 +119,9 @@ abbrev pub answer : Case → Printed
 answer (formula t) = printed_formula (formula_read (bytes t))
 answer (coefficient t) = printed_coefficient (shown_figure (of_text oxygen_coefficient (bytes t)))
 answer (fraction t) = printed_figure (shown_rounded (of_text stoichiometric_fraction (bytes t)))
-answer (limits t) = printed_limits (shown_limits (of_text (fuel_limits (some fit_temperature)) (bytes t)))
-answer (limits_at t k) = printed_limits (shown_limits (of_text (fuel_limits (some (pos k))) (bytes t)))
-answer (limits_usual t) = printed_limits (shown_limits (of_text (fuel_limits none) (bytes t)))
+answer (limits t) = printed_limits (shown_limits (of_text (fuel_limits (Some fit_temperature)) (bytes t)))
+answer (limits_at t k) = printed_limits (shown_limits (of_text (fuel_limits (Some (pos k))) (bytes t)))
+answer (limits_usual t) = printed_limits (shown_limits (of_text (fuel_limits None) (bytes t)))
 answer (concentrations t k) = printed_limits (shown_limits (of_text (mass_concentration (pos k)) (bytes t)))
 answer (flash m t kinds boiling) = printed_point (shown_rounded_temperature (of_text (λ (a : Atoms). by_bonds m a (bonds_of kinds) (pos boiling)) (bytes t)))
 answer (flash_of_class k boiling) = printed_point (shown_rounded_temperature (by_class k (pos boiling)))

@@ -1,5 +1,5 @@
--- At each turn the sum is that of the elements before i.
-use Rattle.std.proofs.Common.{◌≡◌, List, ℕ, ◌*◌, ◌-◌, ◌≤◌, min, get_or}
+-- At each turn the sum is that of the elements so far.
+use Rattle.std.proofs.Common.{◌≡◌, List, ℕ, ◌*◌, ◌≤◌, min, get_or}
 use Rattle.elements.specs.declared.Atoms.{Atoms}
 use Rattle.elements.specs.Elements.{sum_below}
 use Rattle.elements.proofs.weighted_sum.Given as goal
@@ -8,7 +8,4 @@ abbrev pub term : List ℕ → Atoms → ℕ → ℕ
 term weights a i = get_or weights i 0 * min (get_or a.count i 0) 200
 
 abbrev pub invariant-loop-i : goal.invariant-loop-i
-invariant-loop-i l = (l.i ≤ 10) × (l.sum ≤ l.i * 51000) × (l.sum ≡ sum_below (term l.weights l.atoms) l.i)
-
-abbrev pub decreases-loop-i : goal.decreases-loop-i
-decreases-loop-i l = 10 - l.i
+invariant-loop-i l = (l.sum ≤ l.i * 51000) × (l.sum ≡ sum_below (term l.fn.weights l.atoms) l.i)

@@ -1,34 +1,49 @@
--- `bond_sum` meets its contract: a turn adds the term of the kind at the index k.
-use Rattle.std.proofs.Common.{◌≡◌, sym, ◌∙◌, List, ℕ, ◌+◌, ◌*◌, ◌≤◌, ◌<◌, ℤ, pos, nat_abs, ◌+ℤ◌, ◌*ℤ◌, w64, to_z, get_or, arith}
-use Rattle.std.proofs.Math.Facts.{to_z-of_z}
-use Rattle.bonds.specs.declared.Bonds.{Bonds}
-use Rattle.flash.specs.Points.{sum_from}
-use Rattle.flash.specs.Internal.{SmallColumn, terms_from}
-use Rattle.flash.proofs.Sizes.{bits, Sized, sized, read, plus}
-use Rattle.flash.proofs.Columns.{sum-next, sum-end}
+-- A turn adds the term of the kind at the index that the loop has come to.
+use Rattle.std.proofs.Common.{rules, arith, ◌<◌, ◌+◌, ◌≡◌, ◌++◌, ◌∷◌, [], length, get_or, refl, sym, ◌∙◌, None, ℤ, w64, to_z, length-append}
+use Rattle.std.proofs.lemmas.Slice.Zip.{zip_turn, zip_end}
+use Rattle.std.proofs.lemmas.Int.{to_z-of_z}
+use Rattle.flash.proofs.Sizes.{sized-fits, read}
+use Rattle.flash.proofs.Sums.{next, sum-next, sum-end}
+use Rattle.flash.proofs.bond_sum.Goals.{In-Some}
 use Rattle.flash.proofs.bond_sum.Goals as goal
 
--- the sum so far and the next term
-next : (k : ℕ) (s x : ℤ) → k < 22 → nat_abs s ≤ 70000000 + k * 1009800000 → nat_abs x ≤ 1009800000 →
-    Sized (70000000 + k * 1009800000 + 1009800000) (bits (s +ℤ bits x)) (s +ℤ x)
-next k s x l h m = read (omega arith) (plus (sized _ s h) (read (omega arith) (sized 1009800000 x m)))
+pub loop-n-init : goal.loop-n-init
+loop-n-init c = (refl, rw (to_z-of_z _ _ c.ranges.start) (omega (arith, c.requires.start)))
 
--- the terms left, by the coefficient as the code reads it
-left : (xs : List ℤ) (b : Bonds) (k : ℕ) (s x : ℤ) → k < 22 → SmallColumn xs → x ≡ bits (get_or xs k (pos 0)) *ℤ pos (get_or b.count k 0) →
-    sum_from s (terms_from xs b k) ≡ sum_from (s +ℤ x) (terms_from xs b (k + 1))
-left xs b k s x l small e =
-    let entry = read (omega arith) (sized 5049000 (get_or xs k (pos 0)) (small.most k)) in
-    sum-next xs b s k l ∙ rw (e, entry.is)
+-- the count and the coefficient of a turn
+here : (c : In-Some) → (length c.loop-n.yielded < 22) × (c.in-Some.n.now ≡ get_or c.args.bonds.count (length c.loop-n.yielded) 0)
+    × (c.in-Some.coefficient.now ≡ get_or c.column_of.result (length c.loop-n.yielded) None)
+here c =
+    let turn =
+    zip_turn c.args.bonds.count c.column_of.result c.loop-n.yielded c.into_iter-n-iterator.result c.loop-n.n-iterator c.next.new.self c.next.result
+    (search rules) (search rules) c.loop-n.yielded_by (c.in-Some.n, c.in-Some.coefficient) c.in-Some.is c.next.ensures.steps
+    in
+    (omega (arith, turn.0), turn.2 0, turn.3 None)
 
-pub loop-k-preserved : goal.loop-k-preserved
-loop-k-preserved c =
-    let s = to_z w64 c.loop-k.sum-bits in
-    let n = next c.loop-k.k s c.bond_term-sum.result (omega arith) c.loop-k.invariant.2 c.bond_term-sum.ensures.1 in
-    rw n.is (
-      omega arith,
-      c.loop-k.invariant.1 ∙ left c.args.column c.args.bonds c.loop-k.k s _ (omega arith) c.requires.1 c.bond_term-sum.ensures.0,
-      omega (arith, n.most),
-    )
+pub bond_term-sum-requires : goal.bond_term-sum-requires
+bond_term-sum-requires c =
+    let at = here c.before.before in
+    omega (arith, at.1, c.requires.few.most (length c.loop-n.yielded) at.0)
+
+pub overflow_add-sum : goal.overflow_add-sum
+overflow_add-sum c =
+    let at = here c.before.before.before in
+    let s : ℤ = to_z w64 c.loop-n.sum-bits in
+    sized-fits (omega arith) (next _ s c.bond_term-sum.result at.0 (search rules) c.bond_term-sum.ensures.small)
+
+pub loop-n-preserved : goal.loop-n-preserved
+loop-n-preserved c =
+    let at = here c.before.before.before in
+    let s : ℤ = to_z w64 c.loop-n.sum-bits in
+    let sum = read (omega arith) (next (length c.loop-n.yielded) s c.bond_term-sum.result at.0 (search rules) c.bond_term-sum.ensures.small) in
+    let more : length (c.loop-n.yielded ++ (c.in-Some.n, c.in-Some.coefficient) ∷ []) ≡ length c.loop-n.yielded + 1 = simp length-append in
+    let terms = sum-next _ _ _ _ c.in-Some.n.now c.in-Some.coefficient.now _ at.0 at.1 (rw c.column_of.ensures at at.2) c.bond_term-sum.ensures.value in
+    rw (more, sum.is) (c.loop-n.invariant.0 ∙ terms, omega (arith, sum.most))
 
 pub returns : goal.returns
-returns c = sym (rw (to_z-of_z c.ranges.start) at c.loop-k.invariant.1 ∙ sum-end _ _ _ c.loop-k.k (omega arith))
+returns c =
+    let end =
+    zip_end c.args.bonds.count c.column_of.result c.loop-n.yielded c.into_iter-n-iterator.result c.loop-n.n-iterator c.next.new.self c.next.result
+    (search rules) (search rules) c.loop-n.yielded_by c.in-None.is c.next.ensures.steps
+    in
+    sym (rw (to_z-of_z _ _ c.ranges.start) at c.loop-n.invariant.0 ∙ sum-end _ _ _ (length c.loop-n.yielded) (omega (arith, end)))

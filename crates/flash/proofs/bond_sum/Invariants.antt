@@ -1,14 +1,12 @@
--- At each turn the whole sum is the sum so far and the terms left; a kind's bonds add at most 1009800000.
-use Rattle.std.proofs.Common.{◌≡◌, ◌+◌, ◌*◌, ◌-◌, ◌≤◌, nat_abs}
+-- At each turn the whole sum is the sum so far and the terms left; a kind's bonds add at most 2 ^ 46.
+use Rattle.std.proofs.Common.{◌≡◌, ◌+◌, ◌*◌, ◌^◌, ◌≤◌, nat_abs, length}
+use Rattle.answer.specs.Methods.{method_number}
 use Rattle.flash.specs.Points.{sum_from}
-use Rattle.flash.specs.Internal.{terms_from}
+use Rattle.flash.specs.Internal.{bond_terms}
 use Rattle.flash.proofs.bond_sum.Given as goal
 
-abbrev pub invariant-loop-k : goal.invariant-loop-k
-invariant-loop-k l =
-    (l.k ≤ 22)
-    × (sum_from l.start (terms_from l.column l.bonds 0) ≡ sum_from l.sum (terms_from l.column l.bonds l.k))
-    × (nat_abs l.sum ≤ 70000000 + l.k * 1009800000)
-
-abbrev pub decreases-loop-k : goal.decreases-loop-k
-decreases-loop-k l = 22 - l.k
+abbrev pub invariant-loop-n : goal.invariant-loop-n
+invariant-loop-n l =
+    (sum_from l.start (bond_terms (method_number l.fn.method) l.fn.bonds 0)
+    ≡ sum_from l.sum (bond_terms (method_number l.fn.method) l.fn.bonds (length l.yielded)))
+    × (nat_abs l.sum ≤ 2 ^ 38 + 2 ^ 62 + length l.yielded * 2 ^ 46)

@@ -1,32 +1,40 @@
--- `first_missing` meets its contract: the search from i + 1 on, by the bonds and the coefficient at the index i.
-use Rattle.std.proofs.Common.{◌≡◌, sym, ap, ◌∙◌, Bool, List, ℕ, ◌+◌, ◌-◌, ℤ, pos, get_or, arith}
-use Rattle.std.proofs.Math.Option
-use Rattle.std.proofs.Math.Option.{Option}
-use Rattle.answer.proofs.Lowest.{lowest-here, lowest-later, lowest-end}
+-- The kinds' counts and coefficients side by side, and the first that has bonds and a blank.
+use Rattle.std.proofs.Common.{rules, ◌≡◌, ap, ◌∙◌, ℕ, ◌+◌, ◌-◌, ◌<◌, Bool, ◌&&◌, ltb, length, get_or, ℤ, Option, None, option_map, arith}
+use Rattle.std.specs.Option.{is_none}
+use Rattle.std.specs.List.{position, zip}
+use Rattle.std.proofs.lemmas.Iterator.{YieldsList-from_slice, YieldsList-from_zip}
+use Rattle.std.proofs.lemmas.Iterator.Search.{position_from_yields_List}
+use Rattle.std.proofs.lemmas.Slice.Zip.{length-zip, get_or-zip}
+use borrow.Author.Tests.{tests}
+use Rattle.answer.specs.Lowest.{lowest}
+use Rattle.answer.specs.Methods.{method_number}
+use Rattle.answer.proofs.Lowest.{position-lowest}
 use Rattle.bonds.specs.declared.Bonds.{Bonds}
-use Rattle.flash.specs.Internal.{SmallColumn, blank, blank_at}
-use Rattle.flash.proofs.Sizes.{bits, sized, read}
+use Rattle.flash.specs.Points.{missing, no_coefficient_at}
+use Rattle.flash.specs.Internal.{column}
+use Rattle.flash.proofs.Columns.{length_column, entry}
 use Rattle.flash.proofs.first_missing.Goals as goal
 
-abbrev answer : Option ℕ → ℕ
-answer o = Option.get_or o 0
+abbrev blank : (ℕ × Option ℤ) → Bool
+blank p = ltb 0 p.0 && is_none p.1
 
--- the test of the kind 1 + i, by the coefficient as the code reads it
-test : (xs : List ℤ) (b : Bonds) (i : ℕ) (r : Bool) → SmallColumn xs → r ≡ blank (get_or b.count i 0) (bits (get_or xs i (pos 0))) → blank_at xs b (1 + i) ≡ r
-test xs b i r small e =
-    let index : 1 + i - 1 ≡ i = omega arith in
-    let entry = read (omega arith) (sized 5049000 (get_or xs i (pos 0)) (small.most i)) in
-    rw index (sym (rw entry.is at e))
-
-pub returns-then-is_missing : goal.returns-then-is_missing
-returns-then-is_missing c =
-    let here = test _ _ c.loop-i.i _ c.requires c.if-is_missing.ensures in
-    omega (arith, ap answer (c.loop-i.invariant.1 ∙ lowest-here _ 1 22 c.loop-i.i (omega arith) here))
-
-pub loop-i-preserved : goal.loop-i-preserved
-loop-i-preserved c =
-    let here = test _ _ c.loop-i.i _ c.requires c.if-is_missing.ensures in
-    (omega arith, c.loop-i.invariant.1 ∙ lowest-later _ 1 22 c.loop-i.i (omega arith) here)
+found : (m : ℕ) (b : Bonds) → length b.count ≡ 22 → option_map (λ i. i + 1) (position blank (zip b.count (column m))) ≡ no_coefficient_at m b
+unfolding no_coefficient_at missing
+found m b e =
+    let columns : length (column m) ≡ 22 = length_column m in
+    let n : length (zip b.count (column m)) ≡ 22 = rw length-zip (omega arith) in
+    let same : (j : ℕ) → j < length (zip b.count (column m)) → missing m b (1 + j) ≡ blank (get_or (zip b.count (column m)) j (0, None)) =
+    λ j l.
+    let i : 1 + j - 1 ≡ j = omega arith in
+    rw (get_or-zip b.count (column m) j (0, None) (omega arith) (omega arith), entry m j, i) in
+    position-lowest blank (0, None) (missing m b) 1 (zip b.count (column m)) same ∙ ap (λ (k : ℕ). lowest (missing m b) 1 k) n
 
 pub returns : goal.returns
-returns c = omega (arith, ap answer (c.loop-i.invariant.1 ∙ lowest-end _ 1 22 c.loop-i.i (omega arith)))
+returns c =
+    let f : c.position.result ≡ position blank (zip c.args.bonds.count c.column_of.result) =
+    position_from_yields_List {s = c.zip.result} blank c.position.new.self _ c.position.result c.position.ensures.ran
+    (YieldsList-from_zip (YieldsList-from_slice c.args.bonds.count cc) (YieldsList-from_slice c.column_of.result cc)) (λ x b q k. search (rules, tests)) in
+    let g : c.map.result ≡ option_map (λ i. i + 1) c.position.result = search rules in
+    g
+    ∙ ap (λ (o : Option ℕ). option_map (λ i. i + 1) o) (rw c.column_of.ensures at f)
+    ∙ found (method_number c.args.method) c.args.bonds (omega arith)

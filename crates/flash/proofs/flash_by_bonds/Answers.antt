@@ -1,114 +1,62 @@
--- `flash_by_bonds` meets its contract: the tests of the definition, one after the other.
-use Rattle.std.proofs.Common.{◌≡◌, ◌≤◌, sym, ap, ◌∙◌, true, false, List, ℕ, ℤ, pos, nat_abs, rules, arith, w64}
-use Rattle.std.proofs.Math.Facts.{to_z-of_z}
-use Rattle.std.proofs.Math.Option.{none, get_or}
-use Rattle.answer.specs.Lowest.{lowest}
-use Rattle.answer.specs.Outside.{outside}
-use Rattle.answer.proofs.Lowest.{found_at, found_none}
-use Rattle.answer.proofs.Outside.{inside, inside-size}
-use Rattle.elements.specs.declared.Atoms.{Atoms}
-use Rattle.bonds.specs.declared.Bonds.{Bonds}
+-- The steps of the definition, one after the other.
+use Rattle.std.proofs.Common.{rules, ◌≡◌, ap, sym, ◌∙◌, Err, None, ℕ, ℤ, w32, w64}
+use mir.Val.{SFits}
+use Rattle.std.proofs.lemmas.Int.{to_z-of_z}
+use Rattle.answer.specs.Outcome.{answered}
+use Rattle.answer.specs.Methods.{method_number}
+use Rattle.answer.proofs.Methods.{method-known, method-number, method-refused}
 use Rattle.bonds.specs.Kinds.{above_at}
-use Rattle.bonds.proofs.Places.{none_above}
-use Rattle.flash.specs.declared.Linear.{Linear}
-use Rattle.flash.specs.Tables.{methods}
-use Rattle.flash.specs.Points.{row, line_terms, no_coefficient_at, sum_from, by_bonds}
-use Rattle.flash.specs.Internal.{KnownMethod, SmallColumn, FewBonds, column, blank_at, shown_sum}
-use Rattle.flash.proofs.Sizes.{bits, sized, read}
-use Rattle.flash.proofs.Columns.{method-small, column-small, missing-is, sum-terms}
+use Rattle.bonds.proofs.Places.{few}
+use Rattle.rounding.specs.Round.{round_div_ℤ}
+use Rattle.flash.specs.Points.{sum_from, by_bonds}
+use Rattle.flash.specs.Internal.{bond_terms}
+use Rattle.flash.proofs.Steps.{boiling-refused, boiling-admitted, to-boiling}
+use Rattle.flash.proofs.Sums.{sum-all}
 use Rattle.flash.proofs.flash_by_bonds.Goals as goal
 
--- what holds past each test
-known : (m : ℕ) → outside (pos 1) (pos 3) (pos m) ≡ false → KnownMethod m
-known m e = let h = inside 1 3 m e in record { from = h.0; to = h.1 }
-
-few : (a : Atoms) (b : Bonds) (p : ℕ) → p ≡ get_or (above_at a b) 0 → p ≤ 0 → (above_at a b ≡ none) × FewBonds b
-few a b p e l = let h = none_above a b p e l in (h.0, record { most = h.1 })
-
-entries : (m : ℕ) (xs : List ℤ) → KnownMethod m → xs ≡ column m → SmallColumn xs
-entries m xs k e = rw e (column-small m k)
-
-missing : (m : ℕ) (b : Bonds) (xs : List ℤ) (p : ℕ) → KnownMethod m → xs ≡ column m → p ≡ get_or (lowest (blank_at xs b) 1 22) 0 →
-    p ≡ get_or (no_coefficient_at m b) 0
-missing m b xs p k e f = rw (e, missing-is b m k) at f
-
-filled : (m : ℕ) (b : Bonds) (p : ℕ) → p ≡ get_or (no_coefficient_at m b) 0 → p ≤ 0 → no_coefficient_at m b ≡ none
-unfolding no_coefficient_at
-filled m b p e l = found_none _ 22 p e l
-
--- the sum of the line's terms, as it is handed on
-line_is : (m : ℕ) (l : Linear) (t u s : ℤ) → l ≡ row methods m → u ≡ t → s ≡ sum_from (pos 0) (line_terms l u) → nat_abs s ≤ 70000000 →
-    bits s ≡ sum_from (pos 0) (line_terms (row methods m) t)
-line_is m l t u s e d f h = (read (omega arith) (sized 70000000 s h)).is ∙ rw (e, d) at f
-
-pub returns-then-is_outside : goal.returns-then-is_outside
+pub returns-in_err-method : goal.returns-in_err-method
 unfolding by_bonds
-returns-then-is_outside c =
-    let unknown : outside (pos 1) (pos 3) (pos c.args.method) ≡ true = sym c.if-is_outside.ensures in
-    rw unknown c.refused_rounded_temperature.ensures
+returns-in_err-method c =
+    let r : c.from_residual.result ≡ Err c.in_err-method.field-0.0 = search rules in
+    rw r (method-refused c.args.method _ _ c.in_err-method.ensures)
 
-pub returns-then-over-gt0 : goal.returns-then-over-gt0
+pub returns-in-Some : goal.returns-in-Some
 unfolding by_bonds
-returns-then-over-gt0 c =
-    rw (sym c.if-is_outside.ensures, found_at (above_at _ _) _ c.first_above_200-over.ensures (omega arith))
-    c.refused_rounded_temperature-then-over-gt0.ensures
+returns-in-Some c = rw (method-known c.args.method _ c.in_ok-method.ensures, sym c.in-Some.ensures, c.at.ensures)
 
 pub returns-then-hydrogen_is_unbalanced : goal.returns-then-hydrogen_is_unbalanced
 unfolding by_bonds
 returns-then-hydrogen_is_unbalanced c =
-    let f = few _ _ _ c.first_above_200-over.ensures (omega arith) in
-    rw (sym c.if-is_outside.ensures, f.0, sym c.if-hydrogen_is_unbalanced.ensures)
-    c.refused_rounded_temperature-then-hydrogen_is_unbalanced.ensures
+    let none : above_at c.args.atoms c.args.bonds ≡ None = sym c.first_above_200.ensures ∙ c.in_default.is in
+    rw (method-known c.args.method _ c.in_ok-method.ensures, none, sym c.if-hydrogen_is_unbalanced.ensures, c.at-then-hydrogen_is_unbalanced.ensures)
 
-pub column_of-column-requires : goal.column_of-column-requires
-column_of-column-requires c = known _ (sym c.if-is_outside.ensures)
-
-pub first_missing-missing-requires : goal.first_missing-missing-requires
-first_missing-missing-requires c = entries _ _ (known _ (sym c.if-is_outside.ensures)) c.column_of-column.ensures
-
-pub returns-then-missing-gt0 : goal.returns-then-missing-gt0
+pub returns-in-Some-first_missing : goal.returns-in-Some-first_missing
 unfolding by_bonds
-returns-then-missing-gt0 c =
-    let f = few _ _ _ c.first_above_200-over.ensures (omega arith) in
-    let m = missing _ _ _ _ (known _ (sym c.if-is_outside.ensures)) c.column_of-column.ensures c.first_missing-missing.ensures in
-    rw (sym c.if-is_outside.ensures, f.0, sym c.if-hydrogen_is_unbalanced.ensures, found_at (no_coefficient_at _ _) _ m (omega arith))
-    c.refused_rounded_temperature-then-missing-gt0.ensures
+returns-in-Some-first_missing c =
+    let none : above_at c.args.atoms c.args.bonds ≡ None = sym c.first_above_200.ensures ∙ c.in_default.is in
+    let number = method-number c.args.method _ c.in_ok-method.ensures in
+    rw (method-known c.args.method _ c.in_ok-method.ensures, none, sym c.if-hydrogen_is_unbalanced.ensures, number)
+    (rw (sym c.in-Some-first_missing.ensures, c.at-in-Some-first_missing.ensures))
 
-pub returns-then-is_boiling_outside : goal.returns-then-is_boiling_outside
-unfolding by_bonds
-returns-then-is_boiling_outside c =
-    let f = few _ _ _ c.first_above_200-over.ensures (omega arith) in
-    let m = missing _ _ _ _ (known _ (sym c.if-is_outside.ensures)) c.column_of-column.ensures c.first_missing-missing.ensures in
-    let boiling = rw (to_z-of_z c.ranges.boiling) at c.if-is_boiling_outside.ensures in
-    rw (sym c.if-is_outside.ensures, f.0, sym c.if-hydrogen_is_unbalanced.ensures, filled _ _ _ m (omega arith), sym boiling)
-    c.refused_rounded_temperature-then-is_boiling_outside.ensures
+pub returns-in_err-boiling_point : goal.returns-in_err-boiling_point
+returns-in_err-boiling_point c =
+    let none = sym c.first_above_200.ensures ∙ c.in_default.is in
+    let filled = sym c.first_missing.ensures ∙ c.in_default-first_missing.is in
+    let r : c.from_residual-in_err-boiling_point.result ≡ Err c.in_err-boiling_point.field-0.0 = search rules in
+    rw (r, to-boiling c.args.method _ _ _ c.args.boiling c.in_ok-method.ensures none c.if-hydrogen_is_unbalanced.ensures filled)
+    (boiling-refused c.args.boiling _ _ (rw (to_z-of_z _ _ c.ranges.boiling) at c.in_err-boiling_point.ensures))
 
-pub method_line-requires : goal.method_line-requires
-method_line-requires c = known _ (sym c.if-is_outside.ensures)
-
-pub line_sum-start-requires : goal.line_sum-start-requires
-line_sum-start-requires c =
-    let boiling = rw (to_z-of_z c.ranges.boiling) at c.if-is_boiling_outside.ensures in
-    rw (c.method_line.ensures, to_z-of_z c.ranges.boiling)
-    (method-small _, inside-size 20000 60000 _ (omega arith) (sym boiling))
-
-pub bond_sum-requires : goal.bond_sum-requires
-bond_sum-requires c =
-    let start = read (omega arith) (sized 70000000 c.line_sum-start.result c.line_sum-start.ensures.1) in
-    let f = few _ _ _ c.first_above_200-over.ensures (omega arith) in
-    (rw start.is start.most, entries _ _ (known _ (sym c.if-is_outside.ensures)) c.column_of-column.ensures, f.1)
+pub bond_sum-requires-clause-few : goal.bond_sum-requires-clause-few
+bond_sum-requires-clause-few c = record { most = few c.args.bonds c.args.atoms (sym c.first_above_200.ensures ∙ c.in_default.is) }
 
 pub returns : goal.returns
-unfolding by_bonds
 returns c =
-    let f = few _ _ _ c.first_above_200-over.ensures (omega arith) in
-    let m = missing _ _ _ _ (known _ (sym c.if-is_outside.ensures)) c.column_of-column.ensures c.first_missing-missing.ensures in
-    let boiling = rw (to_z-of_z c.ranges.boiling) at c.if-is_boiling_outside.ensures in
-    let line = line_is _ _ _ _ _ c.method_line.ensures (to_z-of_z c.ranges.boiling) c.line_sum-start.ensures.0 c.line_sum-start.ensures.1 in
-    let sum =
-    to_z-of_z {w = w64} {z = c.bond_sum.result} (search rules)
-    ∙ c.bond_sum.ensures
-    ∙ sum-terms _ _ _ _ _ line c.column_of-column.ensures
-    in
-    rw (sym c.if-is_outside.ensures, f.0, sym c.if-hydrogen_is_unbalanced.ensures, filled _ _ _ m (omega arith), sym boiling)
-    (c.rounded_sum.ensures ∙ ap shown_sum sum)
+    let none = sym c.first_above_200.ensures ∙ c.in_default.is in
+    let filled = sym c.first_missing.ensures ∙ c.in_default-first_missing.is in
+    let t = boiling-admitted c.args.boiling _ (rw (to_z-of_z _ _ c.ranges.boiling) at c.in_ok-boiling_point.ensures) in
+    let f : SFits w32 c.in_ok-boiling_point.field-0 = search rules in
+    let line = to_z-of_z w64 c.at-start.result (search rules) ∙ rw (c.of_method.ensures, to_z-of_z _ _ f, t.1) at c.at-start.ensures.value in
+    let m : ℕ = method_number c.in_ok-method.method in
+    let bonds = c.bond_sum.ensures ∙ ap (λ (s : ℤ). sum_from s (bond_terms m c.args.bonds 0)) line ∙ sum-all m c.args.bonds c.args.boiling in
+    let rounded = c.round_div_signed.ensures.value ∙ ap (λ (s : ℤ). round_div_ℤ s 1000) (to_z-of_z w64 c.bond_sum.result (search rules) ∙ bonds) in
+    rw (to-boiling c.args.method _ _ _ c.args.boiling c.in_ok-method.ensures none c.if-hydrogen_is_unbalanced.ensures filled, t.0) (ap answered rounded)

@@ -1,48 +1,31 @@
--- `flash_by_class` meets its contract: the tests of the definition, one after the other.
-use Rattle.std.proofs.Common.{◌≡◌, ◌≤◌, sym, ap, ◌∙◌, true, ℕ, ℤ, pos, nat_abs, arith}
-use Rattle.std.proofs.Math.Facts.{to_z-of_z}
-use Rattle.answer.specs.Outside.{outside}
-use Rattle.answer.proofs.Outside.{inside, inside-size}
-use Rattle.flash.specs.declared.Linear.{Linear}
-use Rattle.flash.specs.Tables.{classes}
-use Rattle.flash.specs.Points.{row, line_terms, class_terms, sum_from, by_class}
-use Rattle.flash.specs.Internal.{shown_sum}
-use Rattle.flash.proofs.Sizes.{bits, sized, read}
-use Rattle.flash.proofs.Columns.{class-small}
+-- The steps of the definition, one after the other.
+use Rattle.std.proofs.Common.{rules, ◌≡◌, ap, ◌∙◌, Err, ℤ, w32, w64}
+use Rattle.std.proofs.lemmas.Int.{to_z-of_z}
+use mir.Val.{SFits}
+use Rattle.answer.specs.Outcome.{answered}
+use Rattle.rounding.specs.Round.{round_div_ℤ}
+use Rattle.flash.specs.Points.{by_class, class_terms}
+use Rattle.flash.proofs.Steps.{class-inside, boiling-refused, boiling-admitted}
 use Rattle.flash.proofs.flash_by_class.Goals as goal
 
--- the sum of the class's terms, as it is handed on
-sum_is : (k : ℕ) (l : Linear) (t u s : ℤ) → l ≡ row classes k → u ≡ t → s ≡ sum_from (pos 0) (line_terms l u) → nat_abs s ≤ 70000000 →
-    bits s ≡ sum_from (pos 0) (class_terms k t)
-unfolding class_terms
-sum_is k l t u s e d f h = (read (omega arith) (sized 70000000 s h)).is ∙ rw (e, d) at f
-
-pub returns-then-is_outside : goal.returns-then-is_outside
+pub returns-in_err-class : goal.returns-in_err-class
 unfolding by_class
-returns-then-is_outside c =
-    let unknown : outside (pos 1) (pos 10) (pos c.args.class) ≡ true = sym c.if-is_outside.ensures in
-    rw unknown c.refused_rounded_temperature.ensures
+returns-in_err-class c =
+    let r : c.from_residual.result ≡ Err c.in_err-class.field-0.0 = search rules in
+    rw (r, c.in_err-class.ensures.1, c.in_err-class.ensures.0)
 
-pub returns-then-is_boiling_outside : goal.returns-then-is_boiling_outside
+pub returns-in_err-boiling_point : goal.returns-in_err-boiling_point
 unfolding by_class
-returns-then-is_boiling_outside c =
-    let boiling = rw (to_z-of_z c.ranges.boiling) at c.if-is_boiling_outside.ensures in
-    rw (sym c.if-is_outside.ensures, sym boiling)
-    c.refused_rounded_temperature-then-is_boiling_outside.ensures
-
-pub class_line-requires : goal.class_line-requires
-class_line-requires c = let h = inside 1 10 c.args.class (sym c.if-is_outside.ensures) in record { from = h.0; to = h.1 }
-
-pub line_sum-requires : goal.line_sum-requires
-line_sum-requires c =
-    let boiling = rw (to_z-of_z c.ranges.boiling) at c.if-is_boiling_outside.ensures in
-    rw (c.class_line.ensures, to_z-of_z c.ranges.boiling)
-    (class-small _, inside-size 20000 60000 _ (omega arith) (sym boiling))
+returns-in_err-boiling_point c =
+    let r : c.from_residual-in_err-boiling_point.result ≡ Err c.in_err-boiling_point.field-0.0 = search rules in
+    rw (r, c.in_ok-class.ensures, class-inside c.in_ok-class.class)
+    (boiling-refused c.args.boiling _ _ (rw (to_z-of_z _ _ c.ranges.boiling) at c.in_err-boiling_point.ensures))
 
 pub returns : goal.returns
-unfolding by_class
+unfolding by_class class_terms
 returns c =
-    let boiling = rw (to_z-of_z c.ranges.boiling) at c.if-is_boiling_outside.ensures in
-    let sum = sum_is _ _ _ _ _ c.class_line.ensures (to_z-of_z c.ranges.boiling) c.line_sum.ensures.0 c.line_sum.ensures.1 in
-    rw (sym c.if-is_outside.ensures, sym boiling)
-    (c.rounded_sum.ensures ∙ ap shown_sum sum)
+    let t = boiling-admitted c.args.boiling _ (rw (to_z-of_z _ _ c.ranges.boiling) at c.in_ok-boiling_point.ensures) in
+    let f : SFits w32 c.in_ok-boiling_point.field-0 = search rules in
+    let sum = rw (c.of_class.ensures, to_z-of_z _ _ f, t.1) at c.at-sum.ensures.value in
+    rw (c.in_ok-class.ensures, class-inside c.in_ok-class.class, t.0)
+    (ap answered (c.round_div_signed.ensures.value ∙ ap (λ (s : ℤ). round_div_ℤ s 1000) (to_z-of_z w64 c.at-sum.result (search rules) ∙ sum)))

@@ -1,11 +1,9 @@
 -- At each turn the line holds the items so far.
-use Rattle.std.proofs.Common.{◌-◌}
-use Rattle.std.proofs.Math.ListN.{replicate}
-use Rattle.hill.proofs.Lines.{LineOf}
+use Rattle.std.proofs.Common.{◌≡◌, take}
+use Rattle.elements.specs.Elements.{count}
+use Rattle.hill.specs.Hill.{hill_order}
+use Rattle.hill.proofs.Lines.{line}
 use Rattle.hill.proofs.hill_line.Given as goal
 
-abbrev pub invariant-loop-i : goal.invariant-loop-i
-invariant-loop-i l = LineOf l.fn.atoms (replicate 43 0) l.bytes l.at l.i
-
-abbrev pub decreases-loop-i : goal.decreases-loop-i
-decreases-loop-i l = 10 - l.i
+abbrev pub invariant-loop-e : goal.invariant-loop-e
+invariant-loop-e l = l.line.items ≡ line (count l.fn.atoms) (take l.e-index (hill_order l.fn.atoms))

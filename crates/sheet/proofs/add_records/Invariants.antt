@@ -1,10 +1,6 @@
--- All records added are those from here on added to the blend so far.
-use Rattle.std.proofs.Common.{◌-◌, length}
+-- All records added are those that are left, all good, added to the blend so far.
 use Rattle.sheet.proofs.Records.{Adding}
 use Rattle.sheet.proofs.add_records.Given as goal
 
-abbrev pub invariant-loop-at : goal.invariant-loop-at
-invariant-loop-at l = Adding l.s l.blend l.at l.passed
-
-abbrev pub decreases-loop-at : goal.decreases-loop-at
-decreases-loop-at l = length l.s - l.at
+abbrev pub invariant-loop-passed : goal.invariant-loop-passed
+invariant-loop-passed l = (goal.iterator-loop-passed).can_next l.passed-iterator × (goal.iterator-loop-passed).is_finite l.passed-iterator × Adding l.s l.blend l.passed-iterator

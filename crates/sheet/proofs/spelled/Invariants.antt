@@ -1,10 +1,6 @@
--- n is the number that the digits before i spell.
-use Rattle.std.proofs.Common.{◌-◌, length}
+-- n is the number that the digits so far spell.
 use Rattle.sheet.proofs.Parts.{Spelling}
 use Rattle.sheet.proofs.spelled.Given as goal
 
-abbrev pub invariant-loop-i : goal.invariant-loop-i
-invariant-loop-i l = Spelling l.s l.i l.n
-
-abbrev pub decreases-loop-i : goal.decreases-loop-i
-decreases-loop-i l = length l.s - l.i
+abbrev pub invariant-loop-digit : goal.invariant-loop-digit
+invariant-loop-digit l = Spelling l.s l.digit-index l.n
