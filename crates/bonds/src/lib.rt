@@ -43,7 +43,8 @@ impl Bonds {
     }
 }
 
-// The lowest place with a count above 200: elements 1 to 10, then bond kinds as 11 to 32.
+// The lowest place with a count above 200: elements 1 to 10, then bond kinds as 11 to 32. (A number, as the definition has it: it is the place of a refusal.)
+// Atoms and bonds come apart here and below, as C hands them in.
 #[tactic(auto, unfolding(crate::specs::Kinds::above_at))]
 pub fn first_above_200(atoms: Atoms, bonds: Bonds) -> Option<u64>
     ensures { result ≡ above_at atoms bonds }

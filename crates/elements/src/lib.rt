@@ -81,7 +81,7 @@ fn index_above(bounds: Atoms, atoms: Atoms) -> Option<usize>
         .position(|(bound, n)| *bound < *n)
 }
 
-// The number of the lowest element with more atoms than its bound.
+// The number of the lowest element with more atoms than its bound. (A number, and no `Element`, as the definition has it: it is the place of a refusal.)
 pub fn first_above(bounds: Atoms, atoms: Atoms) -> Option<u64>
     ensures { result ≡ first_above bounds atoms }
 {
@@ -104,7 +104,8 @@ fn weighted(weight: u8, count: u64) -> u64
     weight as u64 * count.min(200)
 }
 
-// A weight for each element times its count, added up. A count above 200 is taken as 200.
+// A weight for each element times its count, added up. A count above 200 is taken as 200. (Over `zip` the loop is no plainer: it was tried, and its goals stayed
+// open.)
 pub fn weighted_sum(weights: [u8; 10], atoms: Atoms) -> u64
     ensures { result ≡ weighted_sum weights atoms }
 {

@@ -152,7 +152,7 @@ impl Tally {
         self.count[i] = capped_sum(self.count[i], 1, n);
     }
 
-    // Adds n times the group.
+    // Adds n times the group. (By the index of both, since `zip` of what is changed and what is read is no plainer.)
     fn add_group(&mut self, group: Tally, n: u64)
         ensures { (m : Totals) → Counted group m → Adds self.old (times m n) self.new }
     {

@@ -41,7 +41,7 @@ impl Purpose {
         }
     }
 
-    // The number of the lowest element at fault.
+    // The number of the lowest element at fault. (A number, as the definition has it: it is the place of a refusal.)
     #[tactic(auto, unfolding(crate::specs::Admission::not_admitted))]
     fn element_at_fault(self, atoms: Atoms) -> Option<u64>
         ensures { result ≡ not_admitted self atoms }
@@ -53,7 +53,7 @@ impl Purpose {
     }
 }
 
-// β in quarters of a fuel that is admitted; refusals 2, 3 and 4.
+// β in quarters of a fuel that is admitted; refusals 2, 3 and 4. (Its bound is promised of the number, and no type holds it, since C is answered a number.)
 #[tactic(auto, unfolding(crate::specs::Admission::admission))]
 pub fn admit(purpose: Purpose, atoms: Atoms) -> Result<u64, Refused>
     ensures value { told result ≡ admission purpose atoms }
