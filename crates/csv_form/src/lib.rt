@@ -72,7 +72,8 @@ pub fn line_at(s: &[u8], at: usize) -> Span
     span_to(s, at, find_crlf(tail(s, at)), 2)
 }
 
-// The field that begins at a position of a line, which has in common with a line what `span_to` does. At the end and past it, it is empty and stands at the end.
+// The field that begins at a position of a line, which has in common with a line what `span_to` does. At the end and past it, it is empty and stands at the
+// end.
 pub fn field_at(l: &[u8], at: usize) -> Span
     ensures { result ≡ field_at l.now at }
 {

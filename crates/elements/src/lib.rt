@@ -104,8 +104,8 @@ fn weighted(weight: u8, count: u64) -> u64
     weight as u64 * count.min(200)
 }
 
-// A weight for each element times its count, added up. A count above 200 is taken as 200. (Over `zip` the loop is no plainer: it was tried, and its goals stayed
-// open.)
+// A weight for each element times its count, added up. A count above 200 is taken as 200. (Over `zip` the loop is no plainer: it was tried, and its goals
+// stayed open.)
 pub fn weighted_sum(weights: [u8; 10], atoms: Atoms) -> u64
     ensures { result ≡ weighted_sum weights atoms }
 {

@@ -129,8 +129,8 @@ fn capped_sum(a: u64, b: u64, n: u64) -> u64
     a.saturating_add(b.saturating_mul(n)).min(201)
 }
 
-// Atom counts as the reader holds them, indexed by element number less one: all from 201 up are 201. Sharing methods with `Atoms`, whose counts are exact, would
-// be no plainer.
+// Atom counts as the reader holds them, indexed by element number less one: all from 201 up are 201. Sharing methods with `Atoms`, whose counts are exact,
+// would be no plainer.
 #[derive(Clone, Copy)]
 struct Tally {
     count: [u64; 10],

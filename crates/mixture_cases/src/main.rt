@@ -23,7 +23,8 @@ fn run_file(rt: &(impl Files + Print + Eprint), path: &str) {
     }
 }
 
-// Whether there is an argument i. std writes it into a lent room, as nothing uses a heap. A name that is no text, or longer than the system takes, names no file.
+// Whether there is an argument i. std writes it into a lent room, as nothing uses a heap. A name that is no text, or longer than the system takes, names no
+// file.
 fn run_argument(rt: &(impl Env + Files + Print + Eprint), i: usize) -> bool {
     let mut room = [0u8; 4096];
     let length = match rt.arg(i, &mut room) {

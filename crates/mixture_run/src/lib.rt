@@ -75,8 +75,8 @@ pub fn run<R: Read, W: Write>(from: &mut R, to: &mut W) -> io::Result<()>
     }
 }
 
-// Says on standard error why something failed: what it was, and the system's words without the number that the library puts behind them. They are put together in
-// a room of fixed size, as nothing uses a heap.
+// Says on standard error why something failed: what it was, and the system's words without the number that the library puts behind them. They are put
+// together in a room of fixed size, as nothing uses a heap.
 pub fn complain(rt: &impl Eprint, of: &str, error: Error) {
     let mut room = [0u8; 256];
     let mut rest: &mut [u8] = &mut room;

@@ -62,8 +62,8 @@ fn report_of(answer: Limits) -> ArrayVec<u8, 76>
     line
 }
 
-// Writes an answer, as C hands it in, as text at the start of out, and answers its length; the bytes behind it stay. Refusal 17 where out is too short, which leaves all of
-// out as it was.
+// Writes an answer, as C hands it in, as text at the start of out, and answers its length; the bytes behind it stay. Refusal 17 where out is too short, which
+// leaves all of out as it was.
 pub fn write_answer(answer: Limits, out: &mut [u8]) -> Result<usize, Refused>
     ensures value { told result ≡ length_of (answer_placed answer (length out.old)) }
     ensures room { out.new ≡ answer_room answer out.old }
