@@ -2,10 +2,10 @@
 // numbers outside a range, and the numbers of the methods.
 #![tactic(auto)]
 
-ghost use Rattle.std.specs.Prelude.{◌≡◌, ℤ, pos};
+ghost use Rattle.std.specs.Prelude.{◌≡◌, ◌<◌, ℤ, pos};
 ghost use Rattle.std.specs.Int.Signed.{lt_z};
 ghost use Rattle.answer.specs.Methods.{method_named};
-ghost use Rattle.answer.specs.Outcome.{refused_at, told, refusal_of, shown_refusal, shown_figure, shown_temperature, shown_rounded, shown_rounded_temperature};
+ghost use Rattle.answer.specs.Outcome.{refused, refusal, refused_at, told, refusal_of, shown_refusal, shown_figure, shown_temperature, shown_rounded, shown_rounded_temperature};
 ghost use Rattle.answer.specs.Outside.{outside};
 
 use std::fmt;
@@ -100,6 +100,12 @@ pub struct Refusal {
     pub place: u64,
 }
 
+// What an answer has that is not refused.
+pub const NOT_REFUSED: Refusal = Refusal {
+    number: 0,
+    place: 0,
+};
+
 // A figure, or a refusal and 0.
 #[repr(C)]
 #[derive(Clone, Copy, Debug, PartialEq, Eq)]
@@ -173,12 +179,17 @@ impl Refusal {
         ensures { result ≡ refusal_of (told answer) }
     {
         match answer {
-            Ok(_) => Refusal {
-                number: 0,
-                place: 0,
-            },
+            Ok(_) => NOT_REFUSED,
             Err(refused) => refused.into(),
         }
+    }
+
+    // What is shown of this refusal where it is one, its number above 0, else the answer that was handed in.
+    pub fn unless<A: From<Refusal> + Copy>(self, answer: A) -> A
+        ensures declined { 0 < self.number → A.from_gives self result }
+        ensures answered { self.number ≡ 0 → result ≡ answer }
+    {
+        if 0 < self.number { self.into() } else { answer }
     }
 }
 
@@ -186,9 +197,12 @@ impl From<Result<u64, Refused>> for Figure {
     ghost from_gives = { λ answer figure. figure ≡ shown_figure (told answer) };
 
     fn from(answer: Result<u64, Refused>) -> Figure {
-        Figure {
-            refusal: Refusal::of(answer),
-            value: answer.unwrap_or(0),
+        match answer {
+            Ok(value) => Figure {
+                refusal: NOT_REFUSED,
+                value,
+            },
+            Err(refused) => Refusal::from(refused).into(),
         }
     }
 }
@@ -197,9 +211,12 @@ impl From<Result<i64, Refused>> for Temperature {
     ghost from_gives = { λ answer temperature. temperature ≡ shown_temperature (told answer) };
 
     fn from(answer: Result<i64, Refused>) -> Temperature {
-        Temperature {
-            refusal: Refusal::of(answer),
-            value: answer.unwrap_or(0),
+        match answer {
+            Ok(value) => Temperature {
+                refusal: NOT_REFUSED,
+                value,
+            },
+            Err(refused) => Refusal::from(refused).into(),
         }
     }
 }
@@ -208,14 +225,9 @@ impl From<Result<Rounded<u64>, Refused>> for RoundedFigure {
     ghost from_gives = { λ answer figure. figure ≡ shown_rounded (told answer) };
 
     fn from(answer: Result<Rounded<u64>, Refused>) -> RoundedFigure {
-        let figure = answer.unwrap_or(Rounded {
-            value: 0,
-            mark: Mark::Exact,
-        });
-        RoundedFigure {
-            refusal: Refusal::of(answer),
-            value: figure.value,
-            mark: figure.mark as u64,
+        match answer {
+            Ok(figure) => RoundedFigure::answered(figure.value, figure.mark as u64),
+            Err(refused) => Refusal::from(refused).into(),
         }
     }
 }
@@ -224,14 +236,77 @@ impl From<Result<Rounded<i64>, Refused>> for RoundedTemperature {
     ghost from_gives = { λ answer temperature. temperature ≡ shown_rounded_temperature (told answer) };
 
     fn from(answer: Result<Rounded<i64>, Refused>) -> RoundedTemperature {
-        let temperature = answer.unwrap_or(Rounded {
+        match answer {
+            Ok(temperature) => {
+                RoundedTemperature::answered(temperature.value, temperature.mark as u64)
+            }
+            Err(refused) => Refusal::from(refused).into(),
+        }
+    }
+}
+
+// A refusal of any number and place, the table's or not, with zeros beside it.
+impl From<Refusal> for Figure {
+    ghost from_gives = { λ refusal figure. figure ≡ shown_figure (refused refusal) };
+
+    fn from(refusal: Refusal) -> Figure {
+        Figure { refusal, value: 0 }
+    }
+}
+
+impl From<Refusal> for Temperature {
+    ghost from_gives = { λ refusal temperature. temperature ≡ shown_temperature (refused refusal) };
+
+    fn from(refusal: Refusal) -> Temperature {
+        Temperature { refusal, value: 0 }
+    }
+}
+
+impl From<Refusal> for RoundedFigure {
+    ghost from_gives = { λ refusal figure. figure ≡ shown_rounded (refused refusal) };
+
+    fn from(refusal: Refusal) -> RoundedFigure {
+        RoundedFigure {
+            refusal,
             value: 0,
-            mark: Mark::Exact,
-        });
+            mark: 0,
+        }
+    }
+}
+
+impl From<Refusal> for RoundedTemperature {
+    ghost from_gives = { λ refusal temperature. temperature ≡ shown_rounded_temperature (refused refusal) };
+
+    fn from(refusal: Refusal) -> RoundedTemperature {
         RoundedTemperature {
-            refusal: Refusal::of(answer),
-            value: temperature.value,
-            mark: temperature.mark as u64,
+            refusal,
+            value: 0,
+            mark: 0,
+        }
+    }
+}
+
+// An answer with any number as its mark.
+impl RoundedFigure {
+    pub fn answered(value: u64, mark: u64) -> RoundedFigure
+        ensures { result ≡ record { refusal = refusal 0 0; value = value; mark = mark } }
+    {
+        RoundedFigure {
+            refusal: NOT_REFUSED,
+            value,
+            mark,
+        }
+    }
+}
+
+impl RoundedTemperature {
+    pub fn answered(value: i64, mark: u64) -> RoundedTemperature
+        ensures { result ≡ record { refusal = refusal 0 0; value = value; mark = mark } }
+    {
+        RoundedTemperature {
+            refusal: NOT_REFUSED,
+            value,
+            mark,
         }
     }
 }

@@ -16,3 +16,4 @@ pub mod Theorem
 pub mod Figures
 pub mod Masses
 pub mod Told
+pub mod Numbered

@@ -2,18 +2,18 @@
 #![tactic(auto)]
 
 ghost use Rattle.std.specs.Prelude.{◌≡◌, true, false, List, ◌≤◌, ◌<◌, IfOk, MatchResult, Some, None};
-ghost use Rattle.answer.specs.Outcome.{refused_at, told};
+ghost use Rattle.answer.specs.Outcome.{refused, refusal, refused_at, told};
 ghost use Rattle.elements.specs.Elements.{each, first_above, weighted_sum};
 ghost use Rattle.blend.specs.Limit.{lower, upper};
 ghost use Rattle.blend.specs.Temperature.{OneAtFit};
 ghost use Rattle.blend.specs.Fuel.{counts, text as fuel-text, admitting, molar_mass, masses, InHalves};
-ghost use Rattle.blend.specs.Blend.{empty_blend, weight, within, together, taking, adding, joining, limits as asked-limits, rounded_blend_limits, AtMost100, asking_marked, without_marks, asking, shown_blend, shown_limits};
+ghost use Rattle.blend.specs.Blend.{empty_blend, weight, within, together, taking, adding, joining, limits as asked-limits, rounded_blend_limits, AtMost100, asking_marked, asking, shown_blend, shown_limits, limits_told};
 ghost use Rattle.blend.specs.Calls.{Call};
 ghost use Rattle.blend.specs.Claims.{Claims};
 ghost use Rattle.blend.specs.Marks.{MarksAlike};
 ghost use Rattle.blend.specs.Internal.{Within};
 
-use answer::{Mark, Reason, Refusal, Refused, Rounded, is_outside};
+use answer::{NOT_REFUSED, Reason, Refusal, Refused, Rounded, is_outside};
 use elements::{Atoms, weighted_sum};
 use formula::read_formula;
 use oxygen::{Purpose, admit};
@@ -47,9 +47,15 @@ impl Blended {
     pub fn of(given: Blend, answer: Result<Blend, Refused>) -> Blended
         ensures { result ≡ shown_blend given (told answer) }
     {
-        Blended {
-            refusal: Refusal::of(answer),
-            blend: answer.unwrap_or(given),
+        match answer {
+            Ok(blend) => Blended {
+                refusal: NOT_REFUSED,
+                blend,
+            },
+            Err(refused) => Blended {
+                refusal: refused.into(),
+                blend: given,
+            },
         }
     }
 }
@@ -69,21 +75,44 @@ impl From<Result<LimitPair<Rounded<u64>>, Refused>> for Limits {
     ghost from_gives = { λ answer l. l ≡ shown_limits (told answer) };
 
     fn from(answer: Result<LimitPair<Rounded<u64>>, Refused>) -> Limits {
-        let none = Rounded {
-            value: 0,
-            mark: Mark::Exact,
-        };
-        let refusal = Refusal::of(answer);
-        let LimitPair { lower, upper } = answer.unwrap_or(LimitPair {
-            lower: none,
-            upper: none,
-        });
+        match answer {
+            Ok(LimitPair { lower, upper }) => Limits::answered(
+                lower.value,
+                upper.value,
+                lower.mark as u64,
+                upper.mark as u64,
+            ),
+            Err(refused) => Refusal::from(refused).into(),
+        }
+    }
+}
+
+// A refusal of any number and place, the table's or not, with zeros beside it.
+impl From<Refusal> for Limits {
+    ghost from_gives = { λ declined l. l ≡ shown_limits (refused declined) };
+
+    fn from(refusal: Refusal) -> Limits {
         Limits {
             refusal,
-            lower: lower.value,
-            upper: upper.value,
-            lower_mark: lower.mark as u64,
-            upper_mark: upper.mark as u64,
+            lower: 0,
+            upper: 0,
+            lower_mark: 0,
+            upper_mark: 0,
+        }
+    }
+}
+
+impl Limits {
+    // An answer with any numbers as its marks.
+    pub fn answered(low: u64, high: u64, low_mark: u64, high_mark: u64) -> Limits
+        ensures { result ≡ record { refusal = refusal 0 0; lower = low; upper = high; lower_mark = low_mark; upper_mark = high_mark } }
+    {
+        Limits {
+            refusal: NOT_REFUSED,
+            lower: low,
+            upper: high,
+            lower_mark: low_mark,
+            upper_mark: high_mark,
         }
     }
 }
@@ -167,7 +196,9 @@ impl BoundedBlend {
         }
     }
 
-    // The blend with parts of a fuel more. Refusals 2, 3, 4, 8.
+    // The blend with parts of a fuel more. Refusals 2, 3, 4, 8. (Inlined, as are both addings: a result that goes through memory is written in parts, the byte
+    // of a reason and what is beside it, and waits to be read whole.)
+    #[inline(always)]
     #[tactic(auto, using(crate::proofs::Admitted::quarters_of), unfolding(crate::specs::Blend::taking, crate::specs::Fuel::admitting))]
     fn take(self, fuel: Atoms, parts: u64) -> Result<Blend, Refused>
         ensures { told result ≡ taking self.blend (admitting (counts fuel)) parts }
@@ -213,6 +244,7 @@ pub fn empty_blend() -> Blend
 }
 
 // The blend with parts of a fuel more, given by its atom counts. Refusals 28, 2, 3, 4, 8.
+#[inline(always)]
 #[tactic(auto, unfolding(crate::specs::Blend::adding))]
 pub fn add_fuel(b: Blend, fuel: Atoms, parts: u64) -> Result<Blend, Refused>
     ensures { told result ≡ adding b (counts fuel) parts }
@@ -221,6 +253,7 @@ pub fn add_fuel(b: Blend, fuel: Atoms, parts: u64) -> Result<Blend, Refused>
 }
 
 // The same of a fuel given by its formula text. Refusals 28, then the reader's 1 and 2, then 3, 4, 8.
+#[inline(always)]
 #[tactic(auto, unfolding(crate::specs::Blend::adding, crate::specs::Blend::taking, crate::specs::Fuel::admitting))]
 pub fn add_fuel_text(b: Blend, text: &[u8], parts: u64) -> Result<Blend, Refused>
     ensures { told result ≡ adding b (fuel-text text.now) parts }
@@ -250,7 +283,7 @@ pub fn blend_limits_at(b: Blend, temperature: i64) -> Result<LimitPair<Rounded<u
     ensures value { told result ≡ asking_marked b (asked-limits (Some temperature)) }
     ensures at_most { IfOk result AtMost100 }
     ensures at_fit { OneAtFit }
-    ensures in_claim { without_marks (asked-limits (Some temperature)) (told result) ≡ asking b (asked-limits (Some temperature)) }
+    ensures in_claim { limits_told (shown_limits (told result)) ≡ asking b (asked-limits (Some temperature)) }
 {
     let bounded = BoundedBlend::of(b, 0)?;
     if b.total == 0 {
@@ -267,7 +300,7 @@ pub fn blend_limits_at(b: Blend, temperature: i64) -> Result<LimitPair<Rounded<u
 pub fn blend_limits(b: Blend) -> Result<LimitPair<Rounded<u64>>, Refused>
     ensures value { told result ≡ asking_marked b (asked-limits None) }
     ensures at_most { IfOk result AtMost100 }
-    ensures in_claim { without_marks (asked-limits None) (told result) ≡ asking b (asked-limits None) }
+    ensures in_claim { limits_told (shown_limits (told result)) ≡ asking b (asked-limits None) }
 {
     blend_limits_at(b, USUAL_TEMPERATURE)
 }

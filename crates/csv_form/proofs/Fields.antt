@@ -6,10 +6,9 @@ use Prim.Native.Nat.{ℕ, zero, suc, ◌+◌, ◌-◌, ◌≤◌, ◌<◌}
 use native.Mathlib.Numerals.{add-one}
 use native.Mathlib.Omega.{arith}
 use lib.Dec.{eqb}
-use lib.ListN.{length, get_or, take, drop, length-drop}
-use lib.Seq.{drop-drop}
-use Rattle.std.specs.List.{count_by, position_from}
-use Rattle.std.proofs.lemmas.List.Recursion.{is_count_by}
+use lib.ListN.{length, get_or, take, drop, drop_of_length-le, length-drop}
+use lib.Seq.{drop-drop, drop-cons}
+use Rattle.std.specs.List.{position_from}
 use Rattle.text.specs.Bytes.{byte}
 use Rattle.csv_form.specs.declared.Span.{Span}
 use Rattle.csv_form.specs.Lines.{comma, push, before, first_from, field, fields, field_at}
@@ -58,23 +57,22 @@ module _ (l : List ℕ) (at : ℕ) (h : at ≤ length l) (r : Span) (e : r ≡ f
   pub field-later : (k : ℕ) → get_or (fields (drop at l)) (suc k) [] ≡ get_or (fields (drop r.next l)) k []
   field-later k = rw next-is (ap (λ (fs : List (List ℕ)). get_or fs (suc k) []) (fields-step (drop at l)) ∙ later-at (left (drop at l)) k)
 
--- one more than there are commas
+-- how many, while a loop passes the bytes: one more for each comma
 push-length : (a : ℕ) (fs : List (List ℕ)) → 0 < length fs → length (push a fs) ≡ length fs
 push-length a [] h = absurd (omega arith)
 push-length a (f ∷ fs) h = refl
 
-abbrev commas : List ℕ → ℕ
-commas [] = 0
-commas (a ∷ l) = cond (eqb a (byte ",")) (1 + commas l) (commas l)
-
-fields-commas : (l : List ℕ) → length (fields l) ≡ commas l + 1
+pub count-more : (l : List ℕ) (i : ℕ) → i < length l → length (fields (drop i l)) ≡ cond (eqb (get_or l i 0) (byte ",")) 1 0 + length (fields (drop (i + 1) l))
 unfolding fields comma
-fields-commas [] = refl
-fields-commas (a ∷ l) = go (eqb a (byte ",")) (fields-commas l)
+count-more l i h = rw (drop-cons l i 0 h, add-one i) (go (eqb (get_or l i 0) (byte ",")) refl)
   where
-    go : (b : Bool) → length (fields l) ≡ commas l + 1 → length (cond b ([] ∷ fields l) (push a (fields l))) ≡ cond b (1 + commas l) (commas l) + 1
-    go true h = omega arith
-    go false h = push-length a (fields l) (omega arith) ∙ h
+    rest : List (List ℕ)
+    rest = fields (drop (suc i) l)
 
-pub fields-count : (l : List ℕ) → length (fields l) ≡ count_by (λ b. eqb b (byte ",")) l + 1
-fields-count l = rw (fields-commas l, is_count_by commas (λ b. eqb b (byte ",")) refl (λ _ _. refl) l)
+    go : (b : Bool) → eqb (get_or l i 0) (byte ",") ≡ b → length (cond b ([] ∷ rest) (push (get_or l i 0) rest)) ≡ cond b 1 0 + length rest
+    go true e = omega arith
+    go false e = push-length (get_or l i 0) rest (rw (fields-step (drop (suc i) l)) (omega arith)) ∙ omega arith
+
+pub count-end : (l : List ℕ) (i : ℕ) → length l ≤ i → length (fields (drop i l)) ≡ 1
+unfolding fields
+count-end l i h = rw (drop_of_length-le l h)

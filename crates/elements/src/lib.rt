@@ -55,8 +55,8 @@ impl Element {
 
 impl Atoms {
     // The atoms of an element.
-    pub fn of(self, e: Element) -> u64
-        ensures { result ≡ count self e }
+    pub fn of(&self, e: Element) -> u64
+        ensures { result ≡ count self.now e }
     {
         self.count[number_of(e) as usize - 1]
     }

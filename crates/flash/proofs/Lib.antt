@@ -2,3 +2,4 @@ pub mod Sizes
 pub mod Columns
 pub mod Sums
 pub mod Steps
+pub mod Tables

@@ -8,3 +8,4 @@ pub mod Caps
 pub mod Heads
 pub mod Steps
 pub mod Judging
+pub mod Numbered

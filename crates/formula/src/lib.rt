@@ -9,7 +9,7 @@ ghost use Rattle.formula.specs.Reader.{symbol_of, symbol_at, multiple_of, multip
 ghost use Rattle.formula.specs.Reading.{shown_formula, at_most200, reading, OnlyOutcome};
 ghost use Rattle.formula.specs.Internal.{begun, digit_value, cap, Counted, Adds, Says, Closes};
 
-use answer::{Reason, Refusal, Refused};
+use answer::{NOT_REFUSED, Reason, Refusal, Refused};
 use elements::{Atoms, Element, each, first_above, number_of};
 use text::{byte_at, is_digit_from};
 
@@ -25,9 +25,15 @@ impl From<Result<Atoms, Refused>> for FormulaRead {
     ghost from_gives = { λ read f. f ≡ shown_formula (told read) };
 
     fn from(read: Result<Atoms, Refused>) -> FormulaRead {
-        FormulaRead {
-            refusal: Refusal::of(read),
-            atoms: read.unwrap_or(each(0)),
+        match read {
+            Ok(atoms) => FormulaRead {
+                refusal: NOT_REFUSED,
+                atoms,
+            },
+            Err(refused) => FormulaRead {
+                refusal: refused.into(),
+                atoms: each(0),
+            },
         }
     }
 }

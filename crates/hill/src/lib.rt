@@ -1,10 +1,12 @@
 // Atom counts written in Hill order: the text is put together in a line of its own and then copied to the lent buffer.
 #![tactic(auto)]
 
-ghost use Rattle.std.specs.Prelude.{◌≡◌, length};
+ghost use Rattle.std.specs.Prelude.{◌≡◌, [], length};
 ghost use Rattle.answer.specs.Outcome.{told};
 ghost use Rattle.text.specs.Writing.{length_of, shown_written, Longest};
+ghost use Rattle.text.specs.Line.{appended};
 ghost use Rattle.text.specs.Internal.{Appends};
+ghost use Rattle.elements.specs.Elements.{symbol};
 ghost use Rattle.elements.specs.Internal.{AtMost200};
 ghost use Rattle.hill.specs.Hill.{hill_order, hill_item, hill_text, BySymbol};
 ghost use Rattle.hill.specs.Writing.{writing, room_after};
@@ -53,6 +55,17 @@ fn hill_order(atoms: Atoms) -> [Element; 10]
     }
 }
 
+// Appends an element's symbol to a line: one byte or two, which need no call to be copied.
+fn put_symbol(line: &mut ArrayVec<u8, 43>, e: Element)
+    ensures { line.new.items ≡ appended 43 line.old.items (symbol e) }
+{
+    match e.symbol() {
+        [only] => put(line, &[*only]),
+        [first, second] => put(line, &[*first, *second]),
+        other => put(line, other),
+    }
+}
+
 // Appends an element with its count to a line.
 fn put_item(line: &mut ArrayVec<u8, 43>, e: Element, n: u64)
     ensures { Appends 43 line.old.items (hill_item e n) line.new.items }
@@ -60,22 +73,21 @@ fn put_item(line: &mut ArrayVec<u8, 43>, e: Element, n: u64)
     if n == 0 {
         return;
     }
-    put(line, e.symbol());
+    put_symbol(line, e);
     if 1 < n {
         put_decimal(line, n);
     }
 }
 
-// The Hill text of counts of at most 200.
-fn hill_line(atoms: Atoms) -> ArrayVec<u8, 43>
-    requires { AtMost200 atoms }
-    ensures { result.items ≡ hill_text atoms }
+// Puts the Hill text of counts of at most 200 into an empty line, which is lent: one that is handed back is copied whole.
+fn put_formula(line: &mut ArrayVec<u8, 43>, atoms: Atoms)
+    requires few { AtMost200 atoms }
+    requires empty { line.old.items ≡ [] }
+    ensures { line.new.items ≡ hill_text atoms }
 {
-    let mut line = ArrayVec::new();
     for e in hill_order(atoms) {
-        put_item(&mut line, e, atoms.of(e));
+        put_item(line, e, atoms.of(e));
     }
-    line
 }
 
 // Writes atom counts in Hill order at the start of out, and answers the text's length; the bytes behind it stay. Refusals 1 where all counts are 0,
@@ -94,5 +106,7 @@ pub fn write_formula(atoms: Atoms, out: &mut [u8]) -> Result<usize, Refused>
     if let Some(over) = first_above(each(200), atoms) {
         return Err(Reason::CountTooLarge.at(over));
     }
-    write_whole(out, &hill_line(atoms))
+    let mut line = ArrayVec::new();
+    put_formula(&mut line, atoms);
+    write_whole(out, &line)
 }

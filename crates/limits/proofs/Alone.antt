@@ -1,12 +1,12 @@
 -- A fuel alone: the paper's formula is Le Chatelier's rule over an entry of 1 part, and what a blend of it at 1 part answers.
-use mathlib.Core.Path.{◌≡◌, sym, ◌∙◌}
+use mathlib.Core.Path.{◌≡◌, sym, ap, ◌∙◌}
 use mathlib.Core.List.{[], ◌∷◌}
 use Rattle.std.specs.Prelude.{Option}
 use Prim.Native.Nat.{ℕ}
 use native.Mathlib.Omega.{arith}
 use Rattle.std.proofs.lemmas.Bool.Decides.{nat_tests}
 use lib.IntN.{ℤ}
-use Rattle.answer.specs.Outcome.{Outcome, value_of, and_then}
+use Rattle.answer.specs.Outcome.{Outcome, answered, value_of, and_then}
 use Rattle.answer.specs.declared.Rounded.{Rounded}
 use Rattle.rounding.proofs.Fractions.{is_same}
 use Rattle.elements.specs.declared.Atoms.{Atoms}
@@ -57,3 +57,8 @@ module _ (f : Fuel) (t : Option ℤ) where
 -- of a fuel given by its counts
 pub by_blend : (t : Option ℤ) (a : Atoms) → fuel_limits t a ≡ and_then (adding empty_blend (counts a) 1) (λ b. asking_marked b (limits t))
 by_blend t a = (as-blend (counts a) t).of_blend
+
+-- what an empty blend answers that took 1 part
+pub by_adding : (t : Option ℤ) (a : Atoms) {e b : Blend} {x : Outcome (LimitPair (Rounded ℕ))} → e ≡ empty_blend → answered b ≡ adding e (counts a) 1 →
+    x ≡ asking_marked b (limits t) → x ≡ fuel_limits t a
+by_adding t a p q r = r ∙ sym (by_blend t a ∙ ap (λ (o : Outcome Blend). and_then o (λ b. asking_marked b (limits t))) (ap (λ (e : Blend). adding e (counts a) 1) (sym p) ∙ sym q))

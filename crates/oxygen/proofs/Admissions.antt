@@ -4,6 +4,7 @@ use mathlib.Core.Bool.{Bool, true, false, cond}
 use Rattle.std.specs.Prelude.{Some, None}
 use Prim.Native.Nat.{ℕ, ◌+◌, ◌-◌, ◌≤◌}
 use native.Mathlib.Omega.{arith}
+use borrow.Author.Tests.{ne_eqb}
 use lib.Dec.{eqb}
 use lib.IntN.{nat_abs}
 use Rattle.answer.specs.Numbers.{count_too_large, element_not_admitted, oxygen_too_low}
@@ -25,6 +26,10 @@ use Rattle.oxygen.proofs.Betas.{gain-most, beta-high, beta-back}
 
 -- with no element at fault no count is above its bound
 module _ (p : Purpose) (a : Atoms) where
+  pub no_fault : (count a Carbon ≡ 0 → ⊥) → first_above (most p) a ≡ None → not_admitted p a ≡ None
+  unfolding not_admitted
+  no_fault c f = rw (ne_eqb (count a Carbon) 0 c) f
+
   pub within-most : not_admitted p a ≡ None → (x : Element) → count a x ≤ count (most p) x
   unfolding not_admitted
   within-most n x = go (eqb (count a Carbon) 0) n

@@ -1,3 +1,4 @@
 pub mod Betas
 pub mod Admissions
 pub mod Stoichiometry
+pub mod Numbered

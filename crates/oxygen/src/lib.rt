@@ -3,7 +3,7 @@
 
 ghost use Rattle.std.specs.Prelude.{◌≡◌, ◌≤◌, IfOk};
 ghost use Rattle.answer.specs.Outcome.{told};
-ghost use Rattle.oxygen.specs.Admission.{most, not_admitted, admission, oxygen_coefficient};
+ghost use Rattle.oxygen.specs.Admission.{most, admission, oxygen_coefficient};
 ghost use Rattle.oxygen.specs.Stoichiometric.{stoichiometric_fraction};
 
 use answer::{Reason, Refused, Rounded};
@@ -40,21 +40,10 @@ impl Purpose {
             },
         }
     }
-
-    // The number of the lowest element at fault. (A number, as the definition has it: it is the place of a refusal.)
-    #[tactic(auto, unfolding(crate::specs::Admission::not_admitted))]
-    fn element_at_fault(self, atoms: Atoms) -> Option<u64>
-        ensures { result ≡ not_admitted self atoms }
-    {
-        if atoms.of(Element::Carbon) == 0 {
-            return Some(number_of(Element::Carbon));
-        }
-        first_above(self.most_atoms(), atoms)
-    }
 }
 
 // β in quarters of a fuel that is admitted; refusals 2, 3 and 4. (Its bound is promised of the number, and no type holds it, since C is answered a number.)
-#[tactic(auto, unfolding(crate::specs::Admission::admission))]
+#[tactic(auto, unfolding(crate::specs::Admission::admission, crate::specs::Admission::not_admitted))]
 pub fn admit(purpose: Purpose, atoms: Atoms) -> Result<u64, Refused>
     ensures value { told result ≡ admission purpose atoms }
     ensures bounded { IfOk result (λ q. q ≤ 3800) }
@@ -62,7 +51,10 @@ pub fn admit(purpose: Purpose, atoms: Atoms) -> Result<u64, Refused>
     if let Some(over) = first_above(each(200), atoms) {
         return Err(Reason::CountTooLarge.at(over));
     }
-    if let Some(fault) = purpose.element_at_fault(atoms) {
+    if atoms.of(Element::Carbon) == 0 {
+        return Err(Reason::ElementNotAdmitted.at(number_of(Element::Carbon)));
+    }
+    if let Some(fault) = first_above(purpose.most_atoms(), atoms) {
         return Err(Reason::ElementNotAdmitted.at(fault));
     }
     let added = weighted_sum(ADDED, atoms);

@@ -3,16 +3,30 @@ use mathlib.Core.Path.{◌≡◌, refl, sym, ap, ◌∙◌}
 use mathlib.Core.Bool.{Bool, true, false}
 use Prim.Native.Nat.{ℕ, zero, suc, ◌+◌, ◌*◌, ◌-◌, ◌^◌, ◌<◌, ◌≤◌}
 use native.Mathlib.Nat.{le_refl, zero-mul}
+use native.Mathlib.Numerals.{add-one}
 use native.Mathlib.Omega.{arith}
 use lib.Dec.{ltb, eqb}
 use lib.IntN.{ℤ, pos, negsuc, neg_ℤ, neg_ℤ-+ℤ, nat_abs, sub_ℕ, ◌+ℤ◌, ◌-ℤ◌, ◌*ℤ◌}
 use lib.Signed.{mag, lt_z}
-use borrow.Author.Tests.{ltb-true, ltb-false, lt-ltb, ne_eqb}
+use borrow.Author.Tests.{ltb-true, ltb-false, le-ltb, lt-ltb, ne_eqb}
 use mir.Syntax.{Width, w64}
 use mir.Val.{SFits, hbits, to_z, of_z}
 use mir.Facts.{to_z-of_z}
 
+-- below zero, where −1 − z swaps the two halves of a signed type
+pub flip-neg : (z : ℤ) → lt_z z (pos 0) ≡ true → negsuc 0 -ℤ z ≡ pos (mag z)
+flip-neg (pos n) h = absurd (omega (arith, ltb-true n 0 h))
+flip-neg (negsuc n) h = rw (le-ltb (suc n) 1 (omega arith)) (ap pos (omega arith))
+
+pub size-neg : (z : ℤ) → lt_z z (pos 0) ≡ true → mag z + 1 ≡ nat_abs z
+size-neg (pos n) h = absurd (omega (arith, ltb-true n 0 h))
+size-neg (negsuc n) h = add-one n
+
 -- not below zero
+pub flip-pos : (n : ℕ) → negsuc 0 -ℤ pos n ≡ negsuc n
+flip-pos zero = refl
+flip-pos (suc n) = ap negsuc (omega arith)
+
 pub size-pos : (z : ℤ) → lt_z z (pos 0) ≡ false → pos (nat_abs z) ≡ z
 size-pos (pos n) h = refl
 size-pos (negsuc n) h = cc
@@ -25,6 +39,10 @@ size-flip (negsuc n) = refl
 
 pub size-neg-is : (n : ℕ) → nat_abs (neg_ℤ (pos n)) ≡ n
 size-neg-is n = size-flip (pos n)
+
+pub neg_is : (n : ℕ) → 0 < n → negsuc (n - 1) ≡ neg_ℤ (pos n)
+neg_is zero h = absurd (omega arith)
+neg_is (suc n) h = ap negsuc (omega arith)
 
 pub pos-not-neg : (a b : ℕ) → 0 < b → pos a ≡ neg_ℤ (pos b) → ⊥
 pos-not-neg a zero h e = omega arith

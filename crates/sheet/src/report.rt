@@ -1,5 +1,5 @@
 // A sheet's answer as text, put together in a line of its own and then copied to the lent room.
-ghost use Rattle.std.specs.Prelude.{◌≡◌, length};
+ghost use Rattle.std.specs.Prelude.{◌≡◌, [], length};
 ghost use Rattle.answer.specs.Outcome.{told};
 ghost use Rattle.text.specs.Writing.{Longest, length_of, shown_written};
 ghost use Rattle.text.specs.Internal.{Appends};
@@ -52,14 +52,14 @@ fn put_answer(line: &mut ArrayVec<u8, 76>, answer: Limits)
     }
 }
 
-fn report_of(answer: Limits) -> ArrayVec<u8, 76>
-    ensures { result.items ≡ answer_text answer }
+// Puts an answer's text into an empty line, which is lent: one that is handed back is copied whole.
+fn put_report(line: &mut ArrayVec<u8, 76>, answer: Limits)
+    requires { line.old.items ≡ [] }
+    ensures { line.new.items ≡ answer_text answer }
 {
-    let mut line = ArrayVec::new();
-    put(&mut line, b"answer,record,lower,upper\r\n");
-    put_answer(&mut line, answer);
-    put(&mut line, b"\r\n");
-    line
+    put(line, b"answer,record,lower,upper\r\n");
+    put_answer(line, answer);
+    put(line, b"\r\n");
 }
 
 // Writes an answer, as C hands it in, as text at the start of out, and answers its length; the bytes behind it stay. Refusal 17 where out is too short, which
@@ -69,5 +69,7 @@ pub fn write_answer(answer: Limits, out: &mut [u8]) -> Result<usize, Refused>
     ensures room { out.new ≡ answer_room answer out.old }
     ensures longest { Longest 76 out.old (shown_written (told result)) }
 {
-    write_whole(out, &report_of(answer))
+    let mut line = ArrayVec::new();
+    put_report(&mut line, answer);
+    write_whole(out, &line)
 }

@@ -1,7 +1,7 @@
 -- Laws of decimal digits: the last digit and those before it, and the digits of numbers below 1000.
 use mathlib.Core.Path.{◌≡◌, refl, sym, ap, ap₂, ◌∙◌}
 use mathlib.Core.Bool.{Bool, true, false, and-false}
-use mathlib.Core.List.{List, [], ◌∷◌, ◌++◌}
+use mathlib.Core.List.{List, [], ◌∷◌, ◌++◌, append_assoc}
 use Prim.Native.Nat.{ℕ, zero, suc, ◌+◌, ◌*◌, ◌-◌, ◌≤◌, ◌<◌, ◌/◌, ◌%◌, ◌^◌}
 use native.Mathlib.Nat.{pow-suc, div-lt_iff_lt-mul}
 use native.Mathlib.Decide.{dec_lt}
@@ -89,8 +89,40 @@ pub digit-bounds : (k b : ℕ) → digit_from k b ≡ true → (48 + k ≤ b) ×
 unfolding digit_from
 digit-bounds k b e = let h = both (leb (48 + k) b) (leb b 57) e in (leb-true (48 + k) b h.0, leb-true b 57 h.1)
 
--- what the recursion on the digits before the last asks: there are at most 19 of them in 64 bits
-pub before_last : (n : ℕ) → n < 2 ^ 64 → length (decimal (n / 10)) < 20
-before_last n l = omega (arith, decimal-length 18 (n / 10) (omega arith))
+-- a number of 64 bits has at most 20 digits
+pub digits_most : (n : ℕ) → n < 2 ^ 64 → length (decimal n) ≤ 20
+digits_most n l = decimal-length 19 n (omega arith)
 
-pub ruleset by_last_digit = (decimal-one, decimal-more, before_last)
+-- the last two digits of a number of three or more
+pub decimal-pair : (n : ℕ) → 100 ≤ n → decimal n ≡ decimal (n / 100) ++ (48 + n % 100 / 10) ∷ (48 + n % 100 % 10) ∷ []
+decimal-pair n l =
+    let front : n / 10 / 10 ≡ n / 100 = omega arith in
+    let tens : n / 10 % 10 ≡ n % 100 / 10 = omega arith in
+    let ones : n % 10 ≡ n % 100 % 10 = omega arith in
+    decimal-more n (omega arith)
+    ∙ ap (λ (w : List ℕ). w ++ (48 + n % 10) ∷ []) (decimal-more (n / 10) (omega arith))
+    ∙ append_assoc (decimal (n / 10 / 10)) ((48 + n / 10 % 10) ∷ []) ((48 + n % 10) ∷ [])
+    ∙ rw (front, tens, ones) refl
+
+-- both behind those before them, in a line that has room for all of them
+module _ (line new : List ℕ) (n : ℕ) (e : new ≡ line ++ decimal (n / 100)) (l : 100 ≤ n) where
+  pub digits_next : new ++ (48 + n % 100 / 10) ∷ (48 + n % 100 % 10) ∷ [] ≡ line ++ decimal n
+  digits_next = rw (e, decimal-pair n l) (append_assoc line (decimal (n / 100)) ((48 + n % 100 / 10) ∷ (48 + n % 100 % 10) ∷ []))
+
+  pub digits_fit : length line + length (decimal n) ≤ 20 → length new ≤ 18
+  digits_fit h =
+      let whole = ap length (decimal-pair n l) ∙ length-append (decimal (n / 100)) ((48 + n % 100 / 10) ∷ (48 + n % 100 % 10) ∷ []) in
+      rw e (omega (arith, length-append line (decimal (n / 100)), whole))
+
+pub two-length : (n : ℕ) → 10 ≤ n → n < 100 → length (decimal n) ≡ 2
+two-length n l h = rw (decimal-two n l h) refl
+
+pub pair-length : (n : ℕ) → 100 ≤ n → length (decimal n) ≡ length (decimal (n / 100)) + 2
+pair-length n l = rw (decimal-pair n l) (length-append (decimal (n / 100)) ((48 + n % 100 / 10) ∷ (48 + n % 100 % 10) ∷ []))
+
+pub one-length : (n : ℕ) → n < 10 → length (decimal n) ≡ 1
+one-length n l = rw (decimal-one n l) refl
+
+pub ruleset by_two_digits = (decimal-one, decimal-two, one-length, two-length, pair-length, digits_next, digits_fit)
+
+pub ruleset by_three_digits = (decimal-one, decimal-two, decimal-three)

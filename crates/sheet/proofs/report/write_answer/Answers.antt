@@ -7,4 +7,4 @@ use Rattle.sheet.proofs.report.write_answer.Goals as goal
 pub returns-clause-longest : goal.returns-clause-longest
 returns-clause-longest c =
     let short = text-short c.args.answer (omega arith) (omega arith) (omega arith) (omega arith) in
-    rw (c.write_whole.ensures.value, c.deref.ensures.0, c.report_of.ensures) (placed-longest 76 _ _ short)
+    rw (c.write_whole.ensures.value, c.deref.ensures.0, c.put_report.ensures) (placed-longest 76 _ _ short)
