@@ -52,7 +52,7 @@ struct AcceptedCurve<'a> {
     ghost paired: { length curve.temperatures.now ≡ length curve.pressures.now },
 }
 
-// A temperature in hundredths of °C, counted from −273 °C; 0 below. (No sum wraps; the library's saturating sum takes three times as many instructions.)
+// A temperature in hundredths of °C, counted from −273 °C; 0 below. (No sum wraps; the library's saturating sum takes more than twice as many instructions.)
 pub fn kelvin(t: i64) -> u64
     ensures { result ≡ kelvin_of t }
 {
