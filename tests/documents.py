@@ -29,9 +29,10 @@ def is_defined(name, source):
     return re.search(rf"^\s*(?:pub |abbrev |unfoldable |data |record |fn |let )*{word}(?![\w-])|^\w+ {word} =", source, re.M)
 
 
-# Paths, but for what the kit builds in a crate's out/ and those with NAME, FUNCTION or LABEL for any name. In docs/PROMISES.md those of a section's crates are
-# looked at below.
+# Paths, but for what the kit builds in a crate's out/ and those with NAME, FUNCTION or LABEL for any name. Behind a crate's name, as in "elements, src/lib.rt", a
+# path lies in that crate. In docs/PROMISES.md those of a section's crates are looked at below.
 for document, text in texts.items():
+    text = re.sub(r"\b(\w+), (?=(?:specs|proofs|src)/)", lambda crate: f"crates/{crate[1]}/" if (CRATES / crate[1]).exists() else crate[0], text)
     for path in re.findall(r"(?<![\w./])(?:crates|docs|tests|include|specs|proofs|src)/[\w./+-]*\w", text):
         if re.search(r"NAME|FUNCTION|LABEL|/out/", path) or (document == "docs/PROMISES.md" and not path.startswith(("crates/", "docs/", "tests/"))):
             continue

@@ -8,7 +8,8 @@ use native.Mathlib.Omega.{arith}
 use lib.Dec.{eqb}
 use lib.ListN.{length, get_or, take, drop, drop_of_length-le, length-drop}
 use lib.Seq.{drop-drop, drop-cons}
-use Rattle.std.specs.List.{position_from}
+use Rattle.std.specs.List.{count_by, position_from}
+use Rattle.std.proofs.lemmas.List.Sums.{sum_by-cons}
 use Rattle.text.specs.Bytes.{byte}
 use Rattle.csv_form.specs.declared.Span.{Span}
 use Rattle.csv_form.specs.Lines.{comma, push, before, first_from, field, fields, field_at}
@@ -76,3 +77,8 @@ count-more l i h = rw (drop-cons l i 0 h, add-one i) (go (eqb (get_or l i 0) (by
 pub count-end : (l : List ℕ) (i : ℕ) → length l ≤ i → length (fields (drop i l)) ≡ 1
 unfolding fields
 count-end l i h = rw (drop_of_length-le l h)
+
+-- how many in all: one more than there are commas
+pub fields-count : (l : List ℕ) → length (fields l) ≡ count_by (λ b. eqb b (byte ",")) l + 1
+fields-count [] = count-end [] 0 (omega arith)
+fields-count (a ∷ l) = omega (arith, count-more (a ∷ l) 0 (omega arith), fields-count l, sum_by-cons (λ b. cond (eqb b (byte ",")) 1 0) a l)

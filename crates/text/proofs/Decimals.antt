@@ -93,6 +93,12 @@ digit-bounds k b e = let h = both (leb (48 + k) b) (leb b 57) e in (leb-true (48
 pub digits_most : (n : ℕ) → n < 2 ^ 64 → length (decimal n) ≤ 20
 digits_most n l = decimal-length 19 n (omega arith)
 
+-- what a recursion on the digits before the last asks: there are at most 19 of them in 64 bits
+pub before_last : (n : ℕ) → n < 2 ^ 64 → length (decimal (n / 10)) < 20
+before_last n l = omega (arith, decimal-length 18 (n / 10) (omega arith))
+
+pub ruleset by_last_digit = (decimal-one, decimal-more, before_last)
+
 -- the last two digits of a number of three or more
 pub decimal-pair : (n : ℕ) → 100 ≤ n → decimal n ≡ decimal (n / 100) ++ (48 + n % 100 / 10) ∷ (48 + n % 100 % 10) ∷ []
 decimal-pair n l =
