@@ -1,5 +1,5 @@
-"""The documents name what is there: each path; in docs/RULES.md each name before a file in brackets, defined in that file; docs/PROMISES.md has every
-public function of a library, and in the section of a crate its must-fail edits, and nothing else as ruled out."""
+"""The documents name what is there: each path; each name that has its file in brackets, defined in that file; docs/PROMISES.md has every public function of a
+library, and in the section of a crate its must-fail edits, and nothing else as ruled out."""
 
 import pathlib
 import re
@@ -26,7 +26,7 @@ def functions_of(crate):
 def is_defined(name, source):
     """By a line that begins with the name, or a clause of a definition by that case, as `most GasLimits = ..`."""
     word = re.escape(name)
-    return re.search(rf"^\s*(?:pub |abbrev |unfoldable |data |record |fn |let )*{word}(?![\w-])|^\w+ {word} =", source, re.M)
+    return re.search(rf"^\s*(?:pub |abbrev |unfoldable |data |record |ruleset |const |fn |let )*{word}(?![\w-])|^\w+ {word} =", source, re.M)
 
 
 # Paths, but for what the kit builds in a crate's out/ and those with NAME, FUNCTION or LABEL for any name. Behind a crate's name, as in "elements, src/lib.rt", a
@@ -39,13 +39,18 @@ for document, text in texts.items():
         if not pathlib.Path(path).exists():
             faults.append(f"{document}: {path} does not exist")
 
-# A file that is not there is told above.
-for names, file in re.findall(r"((?:`[^`\s]+`(?:,| at| and)?\s+)+)\((crates/[\w/.]+)\)", texts["docs/RULES.md"]):
-    if not pathlib.Path(file).exists():
+# What is named with its file, as `name` (crates/FILE) or (`name`, crates/FILE), is defined there, but for pages of what was changed once, whose names are of that
+# time. A file that is not there is told above.
+for document, text in texts.items():
+    if document == "docs/PORT.md" or document.startswith("docs/changes/"):
         continue
-    for name in re.findall(r"`([^`]+)`", names):
-        if not is_defined(name, pathlib.Path(file).read_text()):
-            faults.append(f"docs/RULES.md: {name} is not defined in {file}")
+    named = re.findall(r"((?:`[^`\s]+`(?:,| at| and)?\s+)+)\((crates/[\w/.]+)\)", text) + re.findall(r"\((`[^`\s]+`),\s+(crates/[\w/.]+)\)", text)
+    for names, file in named:
+        if not pathlib.Path(file).is_file():
+            continue
+        for name in re.findall(r"`([^`]+)`", names):
+            if not is_defined(name, pathlib.Path(file).read_text()):
+                faults.append(f"{document}: {name} is not defined in {file}")
 
 all_edits = {edit for crate in CRATES.iterdir() for edit in edits_of(crate.name)}
 all_functions = {function for crate in CRATES.iterdir() for function in functions_of(crate.name)}
